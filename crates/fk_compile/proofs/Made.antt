@@ -36,7 +36,7 @@ use Rattle.fk_gen_list.specs.Generable.{IsGenerable, HasCode, places_in}
 use Rattle.fk_compile_text.proofs.Parts.{kept as passed}
 use Rattle.fk_compile.specs.Lists.{HasListOf, IsGrouped}
 use Rattle.fk_compile.specs.Faithful.{in_image, in_table, words_by}
-use Rattle.fk_compile.proofs.Rooms.{all_levels, shrinks_deep}
+use Rattle.fk_compile.proofs.Rooms.{all_levels, shrinks_deep, parts_deep}
 use Rattle.fk_compile.proofs.Limits.{sites_fit, commits_fit, commits_rise}
 use Rattle.fk_compile.proofs.Theorem.{IsCompiled}
 
@@ -115,7 +115,7 @@ module _ (program : ProgramTree) (facts : Facts) (layout : Layout) (laid : IsLay
       given values =
           p.law image p.held.frames has p.held.suits p.held.keeps p.held.of_file (values core p.grouped.can.enough)
           (λ block start. all_levels core main (length layout.firsts.items) kept p.grouped.can.steady.within.begins p.grouped.can.steady.within.leads p.held p.least saved p.levels
-          (shrinks_deep core main p.grouped.can.nests) start block)
+          (shrinks_deep core main p.grouped.can.nests) (parts_deep core main p.grouped.can.nests) start block)
 
       pub is_compiled : StepsFindValues → IsCompiled program facts core main image
       is_compiled values = let law = given values in record {
