@@ -1,6 +1,6 @@
 -- The levels of a list, as far as they are found.
-use Rattle.std.proofs.Common.{◌≡◌, ℕ, zero, suc, ◌<◌, ◌≤◌, Bool, true, false, List, [], ◌∷◌, length, slice_get, Some, map, ap, sym, refl, ◌∙◌, subst, arith, ◌⊎◌, inl, inr}
-use Rattle.std.specs.Prelude.{nat_lt, if◌then◌else◌, Option, None}
+use Rattle.std.proofs.Common.{◌≡◌, ℕ, zero, suc, ◌<◌, ◌≤◌, Bool, false, List, [], ◌∷◌, length, slice_get, Some, map, ap, refl, ◌∙◌, arith, ◌⊎◌, inl, inr}
+use Rattle.std.specs.Prelude.{if◌then◌else◌, Option}
 use Rattle.fk_meaning_operation.specs.declared.operation.Operation.{Operation}
 use Rattle.fk_meaning_operation.specs.declared.operation.Operation.TheVariants.{Get, Set}
 use Rattle.fk_meaning_operation.specs.declared.operation.OwnValue.TheVariants.{Value}
@@ -9,7 +9,7 @@ use Rattle.std.proofs.lemmas.Bool.{cases_lt, lt-ltb, le-ltb}
 use Rattle.fk_core.specs.declared.op.CoreOp.{CoreOp}
 use Rattle.fk_gen.specs.declared.placed.Levels.{Levels}
 use Rattle.fk_core_levels.specs.Count.{read, here, after, inside, opens, counts_from, nests_from}
-use Rattle.fk_core_levels.specs.Behind.{up_to, named, leads, IsBound, IsLeast}
+use Rattle.fk_core_levels.specs.Behind.{up_to, named, leads, IsBound}
 use Rattle.fk_core_levels.specs.Levels.{behind_in, AreLevels, told_from, raised, joined, IsSettling, StaysThere}
 use Rattle.fk_core_levels.proofs.Raised.{raised_long, raised_count, raised_nest, raised_above, raised_below}
 

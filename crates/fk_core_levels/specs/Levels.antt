@@ -1,6 +1,6 @@
 -- The levels in the frames of calls, one entry for each index of a list.
-use Rattle.std.specs.Prelude.{◌≡◌, ℕ, zero, suc, ◌+◌, ◌-◌, ◌<◌, ◌≤◌, nat_lt, Bool, true, false, List}
-use Rattle.std.specs.Prelude.{[], ◌∷◌, map, length, slice_get, Some, if◌then◌else◌}
+use Rattle.std.specs.Prelude.{◌≡◌, ℕ, zero, suc, ◌+◌, ◌-◌, ◌<◌, ◌≤◌, nat_lt, Bool}
+use Rattle.std.specs.Prelude.{List, [], ◌∷◌, map, length, slice_get, Some, if◌then◌else◌}
 use Rattle.fk_core.specs.declared.op.CoreOp.{CoreOp}
 use Rattle.fk_gen.specs.declared.placed.Levels.{Levels}
 use Rattle.fk_gen.specs.Levels.{levels_in}

@@ -8,8 +8,8 @@ use Rattle.fk_meaning_operation.specs.declared.operation.SplitKind.TheVariants.{
 use Rattle.fk_image.specs.declared.Image.{Image}
 use Rattle.fk_isa.specs.declared.instruction.Instruction.{Instruction}
 use Rattle.fk_isa.specs.declared.instruction.Instruction.TheVariants.{Lui, Jal, Jalr, Bne, Bgeu, Lw}
-use Rattle.fk_isa.specs.declared.instruction.Instruction.TheVariants.{Sw, Addi, Sltiu, Slli, Srli, Add}
-use Rattle.fk_isa.specs.declared.instruction.Instruction.TheVariants.{Sub, Sltu, Mul, AmoAddW}
+use Rattle.fk_isa.specs.declared.instruction.Instruction.TheVariants.{Sw, Addi, Sltiu, Slli, Srli}
+use Rattle.fk_isa.specs.declared.instruction.Instruction.TheVariants.{Add, Sub, Sltu, Mul, AmoAddW}
 use Rattle.fk_asm.specs.Assembly.{straight}
 use Rattle.fk_asm.specs.Block.{MarkedLine}
 use Rattle.fk_sim_block.specs.Stands.{zero_register, frame_register, size_register, device_register}
