@@ -1,6 +1,6 @@
 -- The levels that are found for a list have room in its frames, and go with its operations.
 use Rattle.std.proofs.Common.{◌≡◌, ◌⊎◌, ℕ, zero, suc, ◌+◌, ◌-◌, ◌*◌, ◌<◌, ◌≤◌, Bool, true, false, List, [], ◌∷◌, length, map, slice_get, Option, Some, None, inl, inr, refl, sym, ap, ◌∙◌, subst, arith}
-use Rattle.std.specs.Prelude.{◌==◌, ◌&&◌, ◌||◌, not, nat_lt, if◌then◌else◌}
+use Rattle.std.specs.Prelude.{◌==◌, ◌&&◌, not, nat_lt, if◌then◌else◌}
 use Rattle.std.proofs.lemmas.Bool.{ltb-true, lt-ltb, eqb-true, and_parts}
 use Rattle.std.proofs.lemmas.List.Elements.{All-head}
 use Rattle.std.proofs.lemmas.Option.{slice_get_within}
@@ -22,20 +22,20 @@ use Rattle.fk_core_levels.specs.Behind.{up_to, named, leads_by, leads, goes_on_b
 use Rattle.fk_core_levels.specs.Levels.{behind_in, AreLevels}
 use Rattle.fk_core_liveness.specs.declared.set.Set.{Set}
 use Rattle.fk_core_liveness.specs.declared.places.FunctionKind.TheVariants.{Main}
-use Rattle.fk_core_liveness.specs.Frames.{kept_in, is_main_place}
+use Rattle.fk_core_liveness.specs.Frames.{is_main_place}
 use Rattle.fk_core_liveness.specs.Live.{reads, kept_behind, asked_by, asked_of, IsLive, IsLeast, words_in}
 use Rattle.fk_core_liveness.proofs.Asked.{split_or}
 use Rattle.fk_core_typing.specs.Laws.{LeadsWithin}
-use Rattle.fk_core_typing.specs.Values.{Place, with_frame, entered, place_behind}
+use Rattle.fk_core_typing.specs.Values.{Place, entered, place_behind}
 use Rattle.fk_lockstep_frames.specs.Nests.{Nest, OfFunction, OfPart, nesting, levels_of, take_frame, IsInPart}
 use Rattle.fk_gen.specs.declared.placed.Levels.{Levels}
-use Rattle.fk_gen.specs.Levels.{told_levels, levels_in}
+use Rattle.fk_gen.specs.Levels.{levels_in}
 use Rattle.fk_gen.specs.Keeps.{peak}
 use Rattle.fk_gen_group.specs.Blocks.{is_group_step, HasLevelWords}
 use Rattle.fk_gen_group.specs.InNode.{LevelsFit}
 use Rattle.fk_gen_group.specs.Laws.{GoesOnWith, GoesAside}
 use Rattle.fk_gen_list.specs.Generable.{places_in}
-use Rattle.fk_gen_list.specs.Laws.{HaveLevels, HaveStepLevels, leads_away, nestings_of, EndsLevel, OpensLevel}
+use Rattle.fk_gen_list.specs.Laws.{leads_away, nestings_of, EndsLevel, OpensLevel}
 use Rattle.fk_gen_list.specs.Whole.{HaveAllLevels}
 use Rattle.fk_sim_block.specs.Next.{OpAt}
 use Rattle.fk_sim_block.specs.Node.{Gathering, Nestings, HasLevelRoom}
