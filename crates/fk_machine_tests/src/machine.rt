@@ -501,8 +501,7 @@ fn harts_commit_in_the_last_cycle(rt: HostRuntime) -> Result<(), AllocError> {
     Ok(())
 }
 
-const COMMITTING_TRACE: &[u8] =
-    b"fork95 trace 1\nharts 2\nc 2 0-1*2\ng 2 split 0-1\nend 2\n";
+const COMMITTING_TRACE: &[u8] = b"fork95 trace 1\nharts 2\nc 2 0-1*2\ng 2 split 0-1\nend 2\n";
 
 #[test]
 fn a_trace_tells_what_harts_commit(rt: HostRuntime) -> Result<(), AllocError> {

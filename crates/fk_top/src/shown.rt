@@ -15,11 +15,7 @@ use fk_num::{signed_text, unsigned_text};
 use fk_ports::{Failed, Sink, give_all, give_pieces};
 
 /// Gives the line that shows a variable in the machine.
-pub fn give_shown<K: Sink>(
-    out: &mut K,
-    machine: &Machine,
-    variable: Variable,
-) -> Result<(), Failed>
+pub fn give_shown<K: Sink>(out: &mut K, machine: &Machine, variable: Variable) -> Result<(), Failed>
     ensures all { OnOk result (K.taken out.new ≡ append_known (K.taken out.old)
         (show_line variable.entry.name.now variable.entry.signed
         (words_in (machine_of machine.now) (variable_of variable.entry)))) }

@@ -39,11 +39,14 @@ returns-then-is_err-clause-cause g c = λ request store same ends.
     record {
       outcome = run_outcome c.args.run;
       cause = ends;
-      cut = inr (inr (same, c.in-Ok.ensures.all,
-          record {
-            rose = on_is_err c.give_line.result _ failed c.give_line.ensures.fault;
-            prefix = subst (λ r. TakesPrefix (g.E.Sink.taken c.args.err.now) (g.E.Sink.taken c.give_line.new.err) (line_of r)) report (on_is_err c.give_line.result _ failed c.give_line.ensures.prefix);
-          }));
+      cut = inr (inr (
+        same,
+        c.in-Ok.ensures.all,
+        record {
+          rose = on_is_err c.give_line.result _ failed c.give_line.ensures.fault;
+          prefix = subst (λ r. TakesPrefix (g.E.Sink.taken c.args.err.now) (g.E.Sink.taken c.give_line.new.err) (line_of r)) report (on_is_err c.give_line.result _ failed c.give_line.ensures.prefix);
+        },
+      ));
     }
 
 pub returns-clause-cause : goal.returns-clause-cause
