@@ -513,7 +513,7 @@ for title, (harts, text, out, kind, place, processor) in FAULTS_OF_RUNS.items():
     report = rf"fault {kind} at {place} by processor {processor} after \d+ cycles\n"
     ROWS.append(Row(run(f"fault {title}.f95", harts=harts), 6, out, report))
 
-# programs with one group at a time, those that fault, and those that never end
+# programs with groups, those that fault, and those that never end
 for title, (harts, given, text, show, out) in (groups.PROGRAMS | frames.PROGRAMS | splits.PROGRAMS).items():
     FILES[f"group {title}.f95"] = text
     words = run(f"group {title}.f95", harts=harts) + (["--show", show] if show else [])
