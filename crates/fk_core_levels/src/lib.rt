@@ -5,7 +5,5 @@
 mod behind;
 mod count;
 mod pass;
-#[cfg(test)]
-mod tests;
 
 pub use pass::levels;
