@@ -103,7 +103,7 @@ help_with() {
 help_with_words() {
     local word
     case ${1-} in
-        run | exec | audit)
+        run | exec | audit | trace)
             for word in --harts --cycles; do
                 [[ " $* " == *" $word"[\ =]* ]] || echo "$1 needs $word N."
             done ;;
@@ -114,15 +114,78 @@ help_with_words() {
     usage | sed '/^$/,$d'
 }
 
+# Tells on standard error how long a run has gone on, after two seconds and then each second, in a line of its own. The
+# file $1 says what stands in the terminal's line: nothing, the time, or an open line of the program.
+tell_time() {
+    SECONDS=0
+    sleep 2
+    while true; do
+        {
+            flock 8
+            if [ "$(<"$1")" != open ]; then
+                printf '\r\033[Kfork95: running for %d s' "$SECONDS" >&2
+                echo time >"$1"
+            fi
+        } 8<"$1"
+        sleep 1
+    done
+}
+
+# Takes the time away again, where it stands.
+clear_time() {
+    if [ "$(<"$1")" = time ]; then
+        printf '\r\033[K' >&2
+        : >"$1"
+    fi
+}
+
+# Passes standard input on as it comes, past the time. What came before Ctrl-C is passed on too.
+pass_on() {
+    local piece
+    trap '' INT
+    piece=$(mktemp)
+    while dd bs=65536 count=1 of="$piece" status=none && [ -s "$piece" ]; do
+        {
+            flock 8
+            clear_time "$1"
+            cat "$piece"
+            if [ -n "$(tail -c 1 "$piece" | tr '\0' .)" ]; then echo open >"$1"; else : >"$1"; fi
+        } 8<"$1"
+    done
+    rm -f "$piece"
+}
+
+# Runs the program with the words given, its report into the file $1, and tells how long the run goes on.
+run_with_time() {
+    local report=$1 status=0
+    shift
+    tell_time "$screen" &
+    teller=$!
+    if [ -t 1 ]; then
+        "$program" "$@" 2>"$report" | pass_on "$screen"
+        status=${PIPESTATUS[0]}
+    else
+        "$program" "$@" 2>"$report" || status=$?
+    fi
+    { kill "$teller" && wait "$teller"; } 2>/dev/null || true
+    teller=
+    clear_time "$screen"
+    return "$status"
+}
+
 # Runs the program with the words given, and helps behind its report where standard error is a terminal.
 run_with_help() {
-    local report status=0 last
-    if [ -t 0 ] && [[ ${1-} == run || ${1-} == exec || ${1-} == audit ]]; then
-        echo "fork95: reading input numbers; Ctrl-D ends them" >&2
-    fi
+    local report screen teller= status=0 last runs=
+    case ${1-} in run | exec | audit | trace) runs=1 ;; esac
     report=$(mktemp)
-    trap 'rm -f "$report"' EXIT
-    "$program" "$@" 2>"$report" || status=$?
+    screen=$(mktemp)
+    trap '[ -z "$teller" ] || kill "$teller" 2>/dev/null; rm -f "$report" "$screen"' EXIT
+    if [ -n "$runs" ] && [ ! -t 0 ]; then
+        run_with_time "$report" "$@" || status=$?
+    else
+        if [ -n "$runs" ]; then echo "fork95: reading input numbers; Ctrl-D ends them" >&2; fi
+        "$program" "$@" 2>"$report" || status=$?
+    fi
     cat "$report" >&2
     last=$(tail -n 1 "$report")
     case $status in

@@ -66,9 +66,6 @@ nothing_of request outcome (inl none) not = ap (λ (o : Outcome). o.put) none.1
 nothing_of request outcome (inr (inl unread)) not = ap (λ (o : Outcome). o.put) unread.1
 nothing_of request outcome (inr (inr read)) not = nothing_by request.words read.command read.bytes read.text outcome read.reads read.comes_to not
 
-pub nothing_put : (request : Request) (outcome : Outcome) (put : Option PutFile) → outcome.put ≡ option_map put_of put → Ends request outcome → ¬ IsPut request.words → put ≡ None
-nothing_put request outcome put same ends not = no_file put (sym same ∙ nothing_of request outcome ends not)
-
 -- the faults of what is read are told: they are as before where the answer is neither a write fault nor a read fault
 pub steady_read : {X : Type 0} (outcome : Outcome) (status : Status) → (outcome ≡ silent ReadFault (line_of reports.ReadFault)) ⊎ X
     → (outcome.put ≡ None → (status ≡ outcome.status) ⊎ (status ≡ WriteFault))

@@ -9,3 +9,4 @@ pub mod Answered
 pub mod Statuses
 pub mod Whole
 pub mod Audited
+pub mod Ended

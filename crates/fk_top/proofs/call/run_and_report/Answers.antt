@@ -35,7 +35,7 @@ returns-then-is_err-clause-cause g c = λ request store same ends.
     let stand = c.in-Ok.ensures.stand ∙ ap (λ (l : Machine). l.stand) end in
     let begun = c.cycles.ensures ∙ ap (λ (l : Machine). l.begun) end in
     let report = c.stand_report-report.ensures ∙ ap (λ s. stand_report c.args.run.image c.args.run.bound s c.cycles.result) stand ∙ ap (stand_report c.args.run.image c.args.run.bound (after c.args.run.bound m).stand) begun in
-    let failed = sym c.is_err.ensures ∙ c.if-is_err.true in
+    let failed = sym c.is_err.ensures.value ∙ c.if-is_err.true in
     record {
       outcome = run_outcome c.args.run;
       cause = ends;
@@ -63,5 +63,5 @@ returns-clause-cause g c = λ request store same ends.
       cause = ends;
       put = same;
       out_took = c.in-Ok.ensures.all;
-      err_took = on_is_ok c.give_line.result _ (sym c.is_err.ensures ∙ c.if-is_err.false) c.give_line.ensures.all ∙ ap (λ r. append_known (g.E.Sink.taken c.args.err.now) (line_of r)) report;
+      err_took = on_is_ok c.give_line.result _ (sym c.is_err.ensures.value ∙ c.if-is_err.false) c.give_line.ensures.all ∙ ap (λ r. append_known (g.E.Sink.taken c.args.err.now) (line_of r)) report;
     }))

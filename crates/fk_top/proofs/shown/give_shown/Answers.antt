@@ -18,7 +18,7 @@ whole : (name : List ℕ) (are_signed : Bool) (words : List ℕ) (before : Optio
     → IsGiven (show_line name are_signed words) (begin name ++ (words_text are_signed words ++ (10 ∷ []))) before before
 whole name are_signed words before =
     subst (λ line. IsGiven (show_line name are_signed words) line before before)
-    (sym (append_assoc name (codes " =") (words_text are_signed words ++ (10 ∷ []))))
+    (append_assoc (name ++ codes " =") (words_text are_signed words) (10 ∷ []))
     (none_given (show_line name are_signed words) before)
 
 pub returns-in_err-give_pieces-clause-prefix : goal.returns-in_err-give_pieces-clause-prefix

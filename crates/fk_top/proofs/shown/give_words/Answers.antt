@@ -17,7 +17,7 @@ next_word : (are_signed : Bool) (words : Memory) (first count index : ℕ) → i
     ≡ word_text are_signed (words (first + index)) ++ words_text are_signed (map words (range_with_len (first + (index + 1)) (count - (index + 1))))
 next_word are_signed words first count index lt =
     let more : count - index ≡ suc (count - (index + 1)) = omega (arith, lt) in
-    let above : suc (first + index) ≡ first + (index + 1) = omega arith in
+    let above : first + index + 1 ≡ first + (index + 1) = omega arith in
     ap (λ n. words_text are_signed (map words (range_with_len (first + index) n))) more
     ∙ ap (λ a. word_text are_signed (words (first + index)) ++ words_text are_signed (map words (range_with_len a (count - (index + 1))))) above
 
@@ -26,10 +26,13 @@ loop-index-init g c =
     let m = machine_of c.args.machine.now in
     let v = c.args.variable in
     let before = g.K.Sink.taken c.args.out.now in
+    let whole = words_text v.signed (words_in m (variable_of v)) in
     let first : v.first ≡ v.first + 0 = omega arith in
+    let count : v.words ≡ v.words - 0 = omega arith in
     record {
-      given = subst (λ a. IsGiven (words_text v.signed (words_in m (variable_of v))) (words_text v.signed (map m.shared.words (range_with_len a v.words))) before before) first
-          (none_given (words_text v.signed (words_in m (variable_of v))) before);
+      given =
+          subst (λ n. IsGiven whole (words_text v.signed (map m.shared.words (range_with_len (v.first + 0) n))) before before) count
+          (subst (λ a. IsGiven whole (words_text v.signed (map m.shared.words (range_with_len a v.words))) before before) first (none_given whole before));
       steady = refl;
     }
 

@@ -16,7 +16,7 @@ audits (Ok e) source text image p n compiled ends = inr (record { image = image;
 audits (Err e) source text image p n compiled ends = tt
 
 pub audit_ending-requires : goal.audit_ending-requires
-audit_ending-requires c = c.in-Ok.ensures.faithful.faithful.limits
+audit_ending-requires c = record { limits = c.in-Ok.ensures.faithful.faithful.limits }
 
 pub returns-in-Ok : goal.returns-in-Ok
 returns-in-Ok c = audits c.audit_ending.result c.args.source.now c.args.text.now c.in-Ok.compiled.image _ _ c.in-Ok.ensures.faithful c.audit_ending.ensures

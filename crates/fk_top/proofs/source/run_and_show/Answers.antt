@@ -57,8 +57,8 @@ returns-in-Some-find_global c = λ source faithful has.
     (Some (record { name = name; first = row.first; words = row.words; signed = row.signed }))
     (ap (option_map (λ s. s.now)) c.in-Some.is) faithful (called source name (row_of row) (global_of source name rows has (Some row) is)) c.run_ending-in-Some-find_global.ensures
 
-pub returns-in-None : goal.returns-in-None
-returns-in-None c = λ source faithful has.
+pub returns : goal.returns
+returns c = λ source faithful has.
     let rows = c.args.compiled.rows.items in
     let name = c.in-Some.name.now in
     inl (record {

@@ -15,7 +15,7 @@ traces (Ok e) source text image p n compiled ends = inr (record { image = image;
 traces (Err e) source text image p n compiled ends = tt
 
 pub run_ending-requires : goal.run_ending-requires
-run_ending-requires c = c.in-Ok.ensures.faithful.faithful.limits
+run_ending-requires c = record { limits = c.in-Ok.ensures.faithful.faithful.limits }
 
 pub returns-in-Ok : goal.returns-in-Ok
 returns-in-Ok c = traces c.run_ending.result c.args.source.now c.args.text.now c.in-Ok.compiled.image _ _ c.in-Ok.ensures.faithful c.run_ending.ensures
