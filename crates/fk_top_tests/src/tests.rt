@@ -65,7 +65,7 @@ fn output_goes_as_far_as_there_is_room(rt: HostRuntime) -> Result<(), Fail> {
     let alloc = rt.alloc();
     let (status, out) = printed(alloc, 3, Vec::new(alloc))?;
     assert_eq!(rt; status, Status::WriteFault);
-    assert!(rt; out.bytes() == b"1\n2");
+    assert!(rt; out.bytes() == b"1\n2".as_slice());
     Ok(())
 }
 
@@ -74,6 +74,6 @@ fn each_cycle_gives_its_bytes(rt: HostRuntime) -> Result<(), Fail> {
     let alloc = rt.alloc();
     let (status, out) = printed(alloc, 9, [2].to_vec(alloc)?)?;
     assert_eq!(rt; status, Status::WriteFault);
-    assert!(rt; out.bytes() == b"1\n");
+    assert!(rt; out.bytes() == b"1\n".as_slice());
     Ok(())
 }
