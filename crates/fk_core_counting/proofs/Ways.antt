@@ -1,6 +1,5 @@
 -- How the parts around a call change where code goes on.
-use Rattle.std.proofs.Common.{◌≡◌, ◌⊎◌, ℕ, zero, suc, ◌+◌, ◌-◌, ◌≤◌, Bool, true, false, true≢false, List, [], ◌∷◌, Option, Some, None, inl, inr, refl, sym, ap, ◌∙◌, subst, arith}
-use Rattle.std.specs.Prelude.{if◌then◌else◌}
+use Rattle.std.proofs.Common.{◌≡◌, ◌⊎◌, ℕ, suc, ◌-◌, ◌≤◌, Bool, true, false, true≢false, List, [], ◌∷◌, Option, Some, None, inl, inr, refl, sym, ap, ◌∙◌, subst, arith}
 use Rattle.fk_meaning_operation.specs.declared.operation.Operation.{Operation}
 use Rattle.fk_meaning_operation.specs.declared.operation.Operation.TheVariants as o
 use Rattle.fk_meaning_operation.specs.declared.operation.SplitKind.{SplitKind}
@@ -15,7 +14,7 @@ use Rattle.fk_core_liveness.specs.Frames.{is_main_place}
 use Rattle.fk_core_typing.specs.Values.{Place, with_frame, entered, place_behind, MayBeIn}
 use Rattle.fk_lockstep_frames.specs.Nests.{Nest, OfFunction, OfPart, nesting, levels_of}
 use Rattle.fk_lockstep_structure.specs.Placed.{Who, OfGroup, OfBody, OfMain, is_main, inner, who_in, may_perform, may_choose}
-use Rattle.fk_core_levels.specs.Count.{here, after, inside, enters}
+use Rattle.fk_core_levels.specs.Count.{here, enters}
 use Rattle.fk_core_counting.specs.Laws.{under}
 use Rattle.fk_core_counting.proofs.Folding.{Parts, parts, none, at, past}
 

@@ -42,8 +42,8 @@ ShrinksIn b (continue rest) = ShrinksIn b rest
 ShrinksIn b (call n op f opening rest) = ShrinksIn b rest
 ShrinksIn b (ends n op rest) = ShrinksIn b rest
 
--- A function is run by such processors, and only `main` by those of `main`. Outside of its splits no
--- loop shrinks.
+-- A function is run by such processors, and only `main` by those of `main`. Outside of its splits
+-- no loop shrinks.
 pub record IsRun (may_call : (in_group : Bool) → (function : ℕ) → Bool)
     (kind : FunctionKind) (code : Code ℕ) : Type 0 where
   pub who : Who
