@@ -61,7 +61,7 @@ Fine group code = FramesIn false code
 -- code that takes no such frame may be a part
 as_part : (code : Coded) → FramesIn false code → FramesIn true code
 as_part done h = tt
-as_part (perform t op rest) h = (λ e. refl, h.1)
+as_part (perform t op rest) h = ((λ e. refl), h.1)
 as_part (choose t op x y rest) h = h
 as_part (while test body step rest) h = h
 as_part (until body test rest) h = h
@@ -79,7 +79,7 @@ quiet_takes_none (o.Frame (suc number) words) quiet e = untrue quiet
 quiet_takes_none op quiet e = e
 
 agrees_or : (sync : Bool) (rest : Coded) → FramesIn false rest → FramesIn false (agreed sync rest)
-agrees_or true rest q = (λ e. e, q)
+agrees_or true rest q = ((λ e. e), q)
 agrees_or false rest q = q
 
 module _ (tables : Tables) (functions : (binding : ℕ) → Signature) (may_call : (in_group : Bool) → (function : ℕ) → Bool) where
@@ -88,18 +88,18 @@ module _ (tables : Tables) (functions : (binding : ℕ) → Signature) (may_call
     inner = λ g. g;
     told = λ g e h. h;
     performs = λ g t op rest quiet q. (quiet_takes_none op quiet, q);
-    allots = λ g name rest means a q. (λ e. e, (λ e. e, q));
+    allots = λ g name rest means a q. ((λ e. e), ((λ e. e), q));
     ends = λ g. tt;
-    part_ends = λ g. (λ e. e, tt);
-    divides = λ g spot by x y rest e splits' is x' y' q. (as_part x x', as_part y y', (λ e'. e', q));
+    part_ends = λ g. ((λ e. e), tt);
+    divides = λ g spot by x y rest e splits' is x' y' q. (as_part x x', as_part y y', ((λ e'. e'), q));
     branches = λ g spot onward x y rest splits' x' y' q. agrees_or (note tables spot.at).sync (choose nowhere (o.Branch onward) x y rest) (x', y', q);
-    shares = λ g name means. all_agree Fine g (λ rest q. (λ e. e, q)) (functions (note tables name.at).binding).parameters;
+    shares = λ g name means. all_agree Fine g (λ rest q. ((λ e. e), q)) (functions (note tables name.at).binding).parameters;
     enters = λ g name rest means q. q;
   }
 
   begins_part : (r : Option Region) (place : Place) (rest : Coded) → FramesIn false rest → FramesIn true (framed tables functions r place rest)
   begins_part None place rest q = as_part rest q
-  begins_part (Some r) place rest q = (λ e. refl, q)
+  begins_part (Some r) place rest q = ((λ e. refl), q)
 
   either : (s : Bool) (x y : Coded) → FramesIn false x → FramesIn false y → FramesIn false (if s then x else y)
   either true x y x' y' = x'
@@ -135,7 +135,7 @@ module _ (tables : Tables) (functions : (binding : ℕ) → Signature) (may_call
         (λ s fits.
         let new = assigned tables functions s (plain o.DropLast rest) in
         k.addresses kept g s (value_or tables functions (plain (o.Push 0)) d.first new)
-        (gives_or (plain (o.Push 0)) (λ rest' q'. (λ e. e, q')) d.first h new (k.assigns kept g s (plain o.DropLast rest) (λ e. e, q)))))
+        (gives_or (plain (o.Push 0)) (λ rest' q'. ((λ e. e), q')) d.first h new (k.assigns kept g s (plain o.DropLast rest) ((λ e. e), q)))))
         q
 
     declares : (ds : List DeclaredTree) → VariablesInPlace tables may_call g ds → Keeps (all_declared tables functions ds)
@@ -147,19 +147,19 @@ module _ (tables : Tables) (functions : (binding : ℕ) → Signature) (may_call
 
     tests : (spot : Spot) (condition : Option Tree) → OptionInPlace tables may_call g condition → FramesIn false (tested tables functions spot condition)
     tests spot condition h =
-        gives_or (plain (o.Push 1)) (λ rest q. (λ e. e, q)) condition h (leaving tables functions (note tables spot.at)) (leaves (note tables spot.at).splits (note tables spot.at).sync)
+        gives_or (plain (o.Push 1)) (λ rest q. ((λ e. e), q)) condition h (leaving tables functions (note tables spot.at)) (leaves (note tables spot.at).splits (note tables spot.at).sync)
 
     returns : (inside : Inside) (e : Option Tree) → OptionInPlace tables may_call g e → Keeps (left_by tables functions inside e)
     returns inside None h rest q = q
     returns inside (Some e) h rest q =
         gives e h (if inside.main then plain o.DropLast (ends nowhere o.Halt rest) else ends nowhere (o.Leave true inside.framed) rest)
-        (either inside.main (plain o.DropLast (ends nowhere o.Halt rest)) (ends nowhere (o.Leave true inside.framed) rest) (λ e'. e', q) q)
+        (either inside.main (plain o.DropLast (ends nowhere o.Halt rest)) (ends nowhere (o.Leave true inside.framed) rest) ((λ e'. e'), q) q)
 
   -- a loop, which is a part of its own or not
   loops : (spot : Spot) (loop : Coded → Coded) → Keeps loop → Keeps (looping tables functions spot loop)
   loops spot loop keeps rest q =
       either (note tables spot.at).splits (choose spot.place (o.Split sk.Loop) (part_frame tables functions spot 0 (loop done)) done (plain o.Resume rest)) (loop rest)
-      (begins_part (frame_at tables spot.at 0) spot.place (loop done) (keeps done tt), tt, (λ e. e, q)) (keeps rest q)
+      (begins_part (frame_at tables spot.at 0) spot.place (loop done) (keeps done tt), tt, ((λ e. e), q)) (keeps rest q)
 
   mutual
     statement : (main : Bool) (who : Who) (inside : Inside) (s : Statement) → StatementInPlace tables may_call main who s → (rest : Coded) → FramesIn false rest → FramesIn false (executed tables functions inside s rest)
@@ -174,7 +174,7 @@ module _ (tables : Tables) (functions : (binding : ℕ) → Signature) (may_call
         let branch = choose nowhere (o.Branch true) (body done) done rest in
         gives (is_group who) condition h.1 (if here.splits then part else agreed here.sync branch)
         (either here.splits part (agreed here.sync branch)
-        (begins_part (frame_at tables spot.at 0) spot.place (body (plain o.End done)) (statement main (inner who) inside first h.2 (plain o.End done) (λ e. e, tt)), tt, (λ e. e, q))
+        (begins_part (frame_at tables spot.at 0) spot.place (body (plain o.End done)) (statement main (inner who) inside first h.2 (plain o.End done) ((λ e. e), tt)), tt, ((λ e. e), q))
         (agrees_or here.sync branch (statement main (inner who) inside first h.2 done tt, tt, q)))
     statement main who inside (p.IfElse spot condition first second) h rest q =
         let here = note tables spot.at in
@@ -185,9 +185,9 @@ module _ (tables : Tables) (functions : (binding : ℕ) → Signature) (may_call
         gives (is_group who) condition h.1 (if here.splits then part else agreed here.sync branch)
         (either here.splits part (agreed here.sync branch)
         (
-          begins_part (frame_at tables spot.at 0) spot.place (x (plain o.End done)) (statement main (inner who) inside first h.2 (plain o.End done) (λ e. e, tt)),
-          begins_part (frame_at tables spot.at 1) spot.place (y (plain o.End done)) (statement main (inner who) inside second h.3 (plain o.End done) (λ e. e, tt)),
-          (λ e. e, q),
+          begins_part (frame_at tables spot.at 0) spot.place (x (plain o.End done)) (statement main (inner who) inside first h.2 (plain o.End done) ((λ e. e), tt)),
+          begins_part (frame_at tables spot.at 1) spot.place (y (plain o.End done)) (statement main (inner who) inside second h.3 (plain o.End done) ((λ e. e), tt)),
+          ((λ e. e), q),
         )
         (agrees_or here.sync branch (statement main (inner who) inside first h.2 done tt, statement main (inner who) inside second h.3 done tt, q)))
     statement main who inside (p.While spot condition body) h rest q =
@@ -214,20 +214,20 @@ module _ (tables : Tables) (functions : (binding : ℕ) → Signature) (may_call
         )) rest q)
     statement main who inside (p.Start spot count body) h rest q =
         let run = part_frame tables functions spot 0 (executed tables functions inside body (plain o.End done)) in
-        gives_or (is_group who) (plain (o.Get own.Processors)) (λ rest' q'. (λ e. e, q')) count h.1 (choose nowhere o.Begin run done (plain o.Resume rest))
-        (begins_part (frame_at tables spot.at 0) spot.place (executed tables functions inside body (plain o.End done)) (statement main OfGroup inside body h.2 (plain o.End done) (λ e. e, tt)), tt, (λ e. e, q))
+        gives_or (is_group who) (plain (o.Get own.Processors)) (λ rest' q'. ((λ e. e), q')) count h.1 (choose nowhere o.Begin run done (plain o.Resume rest))
+        (begins_part (frame_at tables spot.at 0) spot.place (executed tables functions inside body (plain o.End done)) (statement main OfGroup inside body h.2 (plain o.End done) ((λ e. e), tt)), tt, ((λ e. e), q))
     statement main who inside (p.Fork spot parts part rank body) h rest q =
         let run = part_frame tables functions spot 0 (executed tables functions inside body (plain o.End done)) in
         let divided' = choose spot.place (o.Split sk.Fork) run done (plain o.Resume rest) in
         let ranked = value_or tables functions (plain (o.Get own.Rank)) rank divided' in
         gives (is_group who) parts h.1 (plain o.Agree (value tables functions part ranked))
-        (λ e. e,
+        ((λ e. e),
         gives (is_group who) part h.2 ranked
-        (gives_or (is_group who) (plain (o.Get own.Rank)) (λ rest' q'. (λ e. e, q')) rank h.3 divided'
-        (begins_part (frame_at tables spot.at 0) spot.place (executed tables functions inside body (plain o.End done)) (statement main OfGroup inside body h.4 (plain o.End done) (λ e. e, tt)), tt, (λ e. e, q))))
-    statement main who inside (p.Farm spot body) h rest q = (statement main OfBody inside body h.1 done tt, tt, (λ e. e, q))
-    statement main who inside (p.Seq spot body) h rest q = (statement main OfBody inside body h.1 done tt, tt, (λ e. e, q))
-    statement main who inside (p.Barrier spot) h rest q = (λ e. e, q)
+        (gives_or (is_group who) (plain (o.Get own.Rank)) (λ rest' q'. ((λ e. e), q')) rank h.3 divided'
+        (begins_part (frame_at tables spot.at 0) spot.place (executed tables functions inside body (plain o.End done)) (statement main OfGroup inside body h.4 (plain o.End done) ((λ e. e), tt)), tt, ((λ e. e), q))))
+    statement main who inside (p.Farm spot body) h rest q = (statement main OfBody inside body h.1 done tt, tt, ((λ e. e), q))
+    statement main who inside (p.Seq spot body) h rest q = (statement main OfBody inside body h.1 done tt, tt, ((λ e. e), q))
+    statement main who inside (p.Barrier spot) h rest q = ((λ e. e), q)
     statement main who inside (p.Break spot) h rest q = q
     statement main who inside (p.Continue spot) h rest q = q
     statement main who inside (p.Return spot e) h rest q = returns (is_group who) inside e h.1 rest q
@@ -244,7 +244,7 @@ module _ (tables : Tables) (functions : (binding : ℕ) → Signature) (may_call
       else plain (o.Push 0) (ends nowhere (o.Leave true framed') done))
   end_frames true void framed' = tt
   end_frames false true framed' = tt
-  end_frames false false framed' = (λ e. e, tt)
+  end_frames false false framed' = ((λ e. e), tt)
 
   pub body_frames : (main : Bool) (who : Who) (inside : Inside) (void : Bool) (statements : Statements) → StatementsInPlace tables may_call main who statements
       → FramesIn false (body_of tables functions inside void statements)
