@@ -2,3 +2,4 @@ pub mod Raised
 pub mod Settling
 pub mod Telling
 pub mod Swept
+pub mod Lasts

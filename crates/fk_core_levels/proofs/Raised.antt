@@ -1,5 +1,5 @@
 -- Levels of which one begins later.
-use Rattle.std.proofs.Common.{◌≡◌, ℕ, zero, suc, ◌+◌, ◌-◌, ◌<◌, ◌≤◌, Bool, true, false, List, [], ◌∷◌, length, map, ap, sym, refl, ◌∙◌, arith, ◌⊎◌, inl, inr}
+use Rattle.std.proofs.Common.{◌≡◌, ℕ, zero, suc, ◌+◌, ◌-◌, ◌<◌, ◌≤◌, Bool, true, false, List, [], ◌∷◌, length, map, Option, ap, sym, refl, ◌∙◌, arith, ◌⊎◌, inl, inr}
 use Rattle.std.specs.Prelude.{nat_lt, slice_set, if◌then◌else◌}
 use Rattle.std.proofs.lemmas.Bool.{cases_lt, lt-ltb, le-ltb}
 use Rattle.fk_gen.specs.declared.placed.Levels.{Levels}
@@ -55,6 +55,13 @@ one_nest l words = by (nat_lt l.behind words)
     by true = refl
     by false = refl
 
+one_fork : (l : Levels) (words : ℕ) → (raised_one l words).fork ≡ l.fork
+one_fork l words = by (nat_lt l.behind words)
+  where
+    by : (b : Bool) → (let r : Levels = if b then later l words else l in r.fork) ≡ l.fork
+    by true = refl
+    by false = refl
+
 -- ---- at an index
 
 pub raised_long : (saved : All) (i words : ℕ) → length (raised saved i words) ≡ length saved
@@ -71,6 +78,11 @@ pub raised_nest : (saved : All) (i words : ℕ) → map (λ (l : Levels). l.nest
 raised_nest [] i words = refl
 raised_nest (l ∷ saved) zero words = ap (λ n. n ∷ map (λ (l : Levels). l.nest) saved) (one_nest l words)
 raised_nest (l ∷ saved) (suc i) words = ap (λ ns. l.nest ∷ ns) (raised_nest saved i words)
+
+pub raised_fork : (saved : All) (i words : ℕ) → map (λ (l : Levels). l.fork) (raised saved i words) ≡ map (λ (l : Levels). l.fork) saved
+raised_fork [] i words = refl
+raised_fork (l ∷ saved) zero words = ap (λ f. f ∷ map (λ (l : Levels). l.fork) saved) (one_fork l words)
+raised_fork (l ∷ saved) (suc i) words = ap (λ fs. l.fork ∷ fs) (raised_fork saved i words)
 
 pub raised_above : (saved : All) (i words k : ℕ) → behind_in saved k ≤ behind_in (raised saved i words) k
 raised_above [] i words k = omega arith
@@ -104,11 +116,11 @@ raised_new [] i words lt less = absurd (let z : ⊥ = omega arith in z)
 raised_new (l ∷ saved) zero words lt less = ap (λ x. x ∷ saved) (sym (one_new l words less))
 raised_new (l ∷ saved) (suc i) words lt less = ap (λ xs. l ∷ xs) (raised_new saved i words (omega arith) less)
 
-pub raised_fewer : (saved : All) (i words count nest : ℕ) → i < length saved → behind_in saved i < words → words ≤ 64
-    → left_over (slice_set saved i (record { count = count; behind = words; nest = nest })) < left_over saved
-raised_fewer [] i words count nest lt less few = absurd (let z : ⊥ = omega arith in z)
-raised_fewer (l ∷ saved) zero words count nest lt less few = omega arith
-raised_fewer (l ∷ saved) (suc i) words count nest lt less few = let fewer = raised_fewer saved i words count nest (omega arith) less few in omega (arith, fewer)
+pub raised_fewer : (saved : All) (i words count nest : ℕ) (fork : Option ℕ) → i < length saved → behind_in saved i < words → words ≤ 64
+    → left_over (slice_set saved i (record { count = count; behind = words; nest = nest; fork = fork })) < left_over saved
+raised_fewer [] i words count nest fork lt less few = absurd (let z : ⊥ = omega arith in z)
+raised_fewer (l ∷ saved) zero words count nest fork lt less few = omega arith
+raised_fewer (l ∷ saved) (suc i) words count nest fork lt less few = let fewer = raised_fewer saved i words count nest fork (omega arith) less few in omega (arith, fewer)
 
 -- ---- at two indices
 

@@ -9,9 +9,10 @@ use Rattle.std.proofs.lemmas.Bool.{cases_lt, lt-ltb, le-ltb}
 use Rattle.fk_core.specs.declared.op.CoreOp.{CoreOp}
 use Rattle.fk_gen.specs.declared.placed.Levels.{Levels}
 use Rattle.fk_core_levels.specs.Count.{read, here, after, inside, opens, counts_from, nests_from}
+use Rattle.fk_core_levels.specs.Forks.{OpenPart, Parts, no_part, come_to, fork_of, leave, open_from}
 use Rattle.fk_core_levels.specs.Behind.{up_to, named, leads, IsBound, IsLeast}
 use Rattle.fk_core_levels.specs.Levels.{behind_in, AreLevels, told_from, raised, joined, IsSettling, StaysThere}
-use Rattle.fk_core_levels.proofs.Raised.{raised_long, raised_count, raised_nest, raised_above, raised_below}
+use Rattle.fk_core_levels.proofs.Raised.{raised_long, raised_count, raised_nest, raised_fork, raised_above, raised_below}
 
 -- ---- no call has more than 64 words
 
@@ -35,43 +36,56 @@ few_behind core saved s i = s.least (λ i. 64) (most core) i
 
 -- ---- at the beginning
 
-told_long : (parts around : ℕ) (opening : Bool) (ops : List CoreOp) → length (told_from parts around opening ops) ≡ length ops
-told_long parts around opening [] = refl
-told_long parts around opening (op ∷ ops) = ap suc (told_long (after (here parts (read op)) (read op)) (inside (here around (read op)) (read op)) (opens opening op) ops)
+told_long : (parts around : ℕ) (open : Parts) (opening : Bool) (ops : List CoreOp) → length (told_from parts around open opening ops) ≡ length ops
+told_long parts around open opening [] = refl
+told_long parts around open opening (op ∷ ops) = ap suc (told_long (after (here parts (read op)) (read op)) (inside (here around (read op)) (read op)) (leave (read op) (come_to (read op) open)) (opens opening op) ops)
 
-told_count : (parts around : ℕ) (opening : Bool) (ops : List CoreOp) → map (λ (l : Levels). l.count) (told_from parts around opening ops) ≡ counts_from parts opening ops
-told_count parts around opening [] = refl
-told_count parts around opening (op ∷ ops) =
-    ap (λ ns. (if opening then 0 else here parts (read op)) ∷ ns) (told_count (after (here parts (read op)) (read op)) (inside (here around (read op)) (read op)) (opens opening op) ops)
+told_count : (parts around : ℕ) (open : Parts) (opening : Bool) (ops : List CoreOp) → map (λ (l : Levels). l.count) (told_from parts around open opening ops) ≡ counts_from parts opening ops
+told_count parts around open opening [] = refl
+told_count parts around open opening (op ∷ ops) =
+    ap (λ ns. (if opening then 0 else here parts (read op)) ∷ ns) (told_count (after (here parts (read op)) (read op)) (inside (here around (read op)) (read op)) (leave (read op) (come_to (read op) open)) (opens opening op) ops)
 
-told_nest : (parts around : ℕ) (opening : Bool) (ops : List CoreOp) → map (λ (l : Levels). l.nest) (told_from parts around opening ops) ≡ nests_from around opening ops
-told_nest parts around opening [] = refl
-told_nest parts around opening (op ∷ ops) =
+told_nest : (parts around : ℕ) (open : Parts) (opening : Bool) (ops : List CoreOp) → map (λ (l : Levels). l.nest) (told_from parts around open opening ops) ≡ nests_from around opening ops
+told_nest parts around open opening [] = refl
+told_nest parts around open opening (op ∷ ops) =
     ap (λ ns. (if opening then 0 else here around (read op)) ∷ ns)
-    (told_nest (after (here parts (read op)) (read op)) (inside (here around (read op)) (read op)) (opens opening op) ops)
+    (told_nest (after (here parts (read op)) (read op)) (inside (here around (read op)) (read op)) (leave (read op) (come_to (read op) open)) (opens opening op) ops)
 
-told_holds : (parts around : ℕ) (opening : Bool) (ops : List CoreOp) (i : ℕ) (op : CoreOp) → slice_get ops i ≡ Some op → named (read op) ≤ behind_in (told_from parts around opening ops) i
-told_holds parts around opening [] i op at = absurd (cc)
-told_holds parts around opening (o ∷ ops) zero op at =
+fork_told : (opening : Bool) (open : List OpenPart) → (if opening then None else fork_of open) ≡ fork_of (if opening then [] else open)
+fork_told true open = refl
+fork_told false open = refl
+
+told_fork : (parts around : ℕ) (open : Parts) (opening : Bool) (ops : List CoreOp) → map (λ (l : Levels). l.fork) (told_from parts around open opening ops) ≡ map fork_of (open_from open opening ops)
+told_fork parts around open opening [] = refl
+told_fork parts around open opening (op ∷ ops) =
+    let there = come_to (read op) open in
+    let rest = told_fork (after (here parts (read op)) (read op)) (inside (here around (read op)) (read op)) (leave (read op) there) (opens opening op) ops in
+    ap (λ f. f ∷ map (λ (l : Levels). l.fork) (told_from (after (here parts (read op)) (read op)) (inside (here around (read op)) (read op)) (leave (read op) there) (opens opening op) ops)) (fork_told opening there.open)
+    ∙ ap (λ fs. fork_of (if opening then [] else there.open) ∷ fs) rest
+
+told_holds : (parts around : ℕ) (open : Parts) (opening : Bool) (ops : List CoreOp) (i : ℕ) (op : CoreOp) → slice_get ops i ≡ Some op → named (read op) ≤ behind_in (told_from parts around open opening ops) i
+told_holds parts around open opening [] i op at = absurd (cc)
+told_holds parts around open opening (o ∷ ops) zero op at =
     let same : o ≡ op = cc in
     let e : named (read o) ≡ named (read op) = ap (λ x. named (read x)) same in
     omega (arith, e)
-told_holds parts around opening (o ∷ ops) (suc i) op at = told_holds (after (here parts (read o)) (read o)) (inside (here around (read o)) (read o)) (opens opening o) ops i op at
+told_holds parts around open opening (o ∷ ops) (suc i) op at = told_holds (after (here parts (read o)) (read o)) (inside (here around (read o)) (read o)) (leave (read o) (come_to (read o) open)) (opens opening o) ops i op at
 
-told_least : (parts around : ℕ) (opening : Bool) (ops : List CoreOp) (other : ℕ → ℕ) → ((i : ℕ) (op : CoreOp) → slice_get ops i ≡ Some op → named (read op) ≤ other i)
-    → (i : ℕ) → behind_in (told_from parts around opening ops) i ≤ other i
-told_least parts around opening [] other holds i = omega arith
-told_least parts around opening (o ∷ ops) other holds zero = holds 0 o refl
-told_least parts around opening (o ∷ ops) other holds (suc i) =
-    told_least (after (here parts (read o)) (read o)) (inside (here around (read o)) (read o)) (opens opening o) ops (λ i. other (suc i)) (λ i op at. holds (suc i) op at) i
+told_least : (parts around : ℕ) (open : Parts) (opening : Bool) (ops : List CoreOp) (other : ℕ → ℕ) → ((i : ℕ) (op : CoreOp) → slice_get ops i ≡ Some op → named (read op) ≤ other i)
+    → (i : ℕ) → behind_in (told_from parts around open opening ops) i ≤ other i
+told_least parts around open opening [] other holds i = omega arith
+told_least parts around open opening (o ∷ ops) other holds zero = holds 0 o refl
+told_least parts around open opening (o ∷ ops) other holds (suc i) =
+    told_least (after (here parts (read o)) (read o)) (inside (here around (read o)) (read o)) (leave (read o) (come_to (read o) open)) (opens opening o) ops (λ i. other (suc i)) (λ i op at. holds (suc i) op at) i
 
-pub told_settles : (core : List CoreOp) → IsSettling core (told_from 0 0 false core)
+pub told_settles : (core : List CoreOp) → IsSettling core (told_from 0 0 no_part false core)
 told_settles core = record {
-  long = told_long 0 0 false core;
-  count = told_count 0 0 false core;
-  nest = told_nest 0 0 false core;
-  holds = told_holds 0 0 false core;
-  least = λ other bound i. told_least 0 0 false core other bound.holds i;
+  long = told_long 0 0 no_part false core;
+  count = told_count 0 0 no_part false core;
+  nest = told_nest 0 0 no_part false core;
+  fork = told_fork 0 0 no_part false core;
+  holds = told_holds 0 0 no_part false core;
+  least = λ other bound i. told_least 0 0 no_part false core other bound.holds i;
 }
 
 -- ---- where two are joined
@@ -86,6 +100,7 @@ joined_settles core saved i onward s lt there =
       long = raised_long once j (behind_in saved i) ∙ raised_long saved i (behind_in saved j) ∙ s.long;
       count = raised_count once j (behind_in saved i) ∙ raised_count saved i (behind_in saved j) ∙ s.count;
       nest = raised_nest once j (behind_in saved i) ∙ raised_nest saved i (behind_in saved j) ∙ s.nest;
+      fork = raised_fork once j (behind_in saved i) ∙ raised_fork saved i (behind_in saved j) ∙ s.fork;
       holds = λ k op at.
           let held = s.holds k op at in
           let one = raised_above saved i (behind_in saved j) k in
@@ -106,6 +121,7 @@ are_levels core saved s stays = record {
   long = s.long;
   count = s.count;
   nest = s.nest;
+  fork = s.fork;
   bound = record { holds = s.holds; stays = λ i onward lt there. stays i lt onward there };
   least = s.least;
 }

@@ -7,6 +7,7 @@ use Rattle.fk_meaning_operation.specs.declared.operation.Operation.TheVariants.{
 use Rattle.fk_core.specs.declared.op.CoreOp.{CoreOp}
 use Rattle.fk_gen.specs.declared.placed.Levels.{Levels}
 use Rattle.fk_core_levels.specs.Count.{read, here, after, inside, opens}
+use Rattle.fk_core_levels.specs.Forks.{Parts, come_to, fork_of, leave}
 use Rattle.fk_core_levels.specs.Behind.{named}
 use Rattle.fk_core_levels.specs.Levels.{told_from}
 
@@ -21,34 +22,43 @@ few_inside parts (Some (Split by)) = omega arith
 few_inside parts (Some Begin) = omega arith
 few_inside parts o = omega arith
 
-abbrev levels_of : (count behind nest : ℕ) → Levels
-levels_of count behind nest = record { count = count; behind = behind; nest = nest }
+abbrev levels_of : (count behind nest : ℕ) (fork : Option ℕ) → Levels
+levels_of count behind nest fork = record { count = count; behind = behind; nest = nest; fork = fork }
 
-module _ (ops : List CoreOp) (i : ℕ) (op : CoreOp) (parts around : ℕ) (opening : Bool) (done whole : List Levels) (split : drop i ops ≡ op ∷ drop (i + 1) ops)
-    (e : done ++ told_from parts around opening (drop i ops) ≡ whole) where
+module _ (ops : List CoreOp) (i : ℕ) (op : CoreOp) (parts around : ℕ) (open : Parts) (opening : Bool) (done whole : List Levels) (split : drop i ops ≡ op ∷ drop (i + 1) ops)
+    (e : done ++ told_from parts around open opening (drop i ops) ≡ whole) where
   abbrev count : ℕ
   count = here parts (read op)
 
   abbrev nest : ℕ
   nest = here around (read op)
 
-  abbrev rest : (parts around : ℕ) → Bool → List Levels
-  rest p a b = told_from p a b (drop (i + 1) ops)
+  abbrev there : Parts
+  there = come_to (read op) open
+
+  abbrev rest : (parts around : ℕ) → Parts → Bool → List Levels
+  rest p a q b = told_from p a q b (drop (i + 1) ops)
 
   abbrev one : Levels
-  one = levels_of (if opening then 0 else count) (named (read op)) (if opening then 0 else nest)
+  one = levels_of (if opening then 0 else count) (named (read op)) (if opening then 0 else nest) (if opening then None else fork_of there.open)
 
-  told_one : (done ++ one ∷ []) ++ rest (after count (read op)) (inside nest (read op)) (opens opening op) ≡ whole
+  told_one : (done ++ one ∷ []) ++ rest (after count (read op)) (inside nest (read op)) (leave (read op) there) (opens opening op) ≡ whole
   told_one =
-      append_assoc done (one ∷ []) (rest (after count (read op)) (inside nest (read op)) (opens opening op))
-      ∙ ap (λ xs. done ++ told_from parts around opening xs) (sym split) ∙ e
+      append_assoc done (one ∷ []) (rest (after count (read op)) (inside nest (read op)) (leave (read op) there) (opens opening op))
+      ∙ ap (λ xs. done ++ told_from parts around open opening xs) (sym split) ∙ e
 
-  pub told_next : (new : List Levels) (c b n p a : ℕ) (o : Bool) → new ≡ done ++ levels_of c b n ∷ [] → c ≡ (if opening then 0 else count) → b ≡ named (read op) → n ≡ (if opening then 0 else nest)
-      → p ≡ after count (read op) → a ≡ inside nest (read op) → o ≡ opens opening op → new ++ rest p a o ≡ whole
-  told_next new c b n p a o is of_count of_words of_nest of_parts of_around of_opening =
-      ap (λ xs. xs ++ rest p a o) is
-      ∙ ap (λ x. (done ++ levels_of x b n ∷ []) ++ rest p a o) of_count
-      ∙ ap (λ x. (done ++ levels_of (if opening then 0 else count) x n ∷ []) ++ rest p a o) of_words
-      ∙ ap (λ x. (done ++ levels_of (if opening then 0 else count) (named (read op)) x ∷ []) ++ rest p a o) of_nest
-      ∙ ap (λ x. (done ++ one ∷ []) ++ rest x a o) of_parts ∙ ap (λ x. (done ++ one ∷ []) ++ rest (after count (read op)) x o) of_around
-      ∙ ap (λ x. (done ++ one ∷ []) ++ rest (after count (read op)) (inside nest (read op)) x) of_opening ∙ told_one
+  pub told_next : (new : List Levels) (c b n : ℕ) (f : Option ℕ) (p a : ℕ) (q : Parts) (o : Bool) → new ≡ done ++ levels_of c b n f ∷ [] → c ≡ (if opening then 0 else count) → b ≡ named (read op)
+      → n ≡ (if opening then 0 else nest) → f ≡ (if opening then None else fork_of there.open)
+      → p ≡ after count (read op) → a ≡ inside nest (read op) → q ≡ leave (read op) there → o ≡ opens opening op → new ++ rest p a q o ≡ whole
+  told_next new c b n f p a q o is of_count of_words of_nest of_fork of_parts of_around of_open of_opening =
+      let first = if opening then 0 else count in
+      let third = if opening then 0 else nest in
+      ap (λ xs. xs ++ rest p a q o) is
+      ∙ ap (λ x. (done ++ levels_of x b n f ∷ []) ++ rest p a q o) of_count
+      ∙ ap (λ x. (done ++ levels_of first x n f ∷ []) ++ rest p a q o) of_words
+      ∙ ap (λ x. (done ++ levels_of first (named (read op)) x f ∷ []) ++ rest p a q o) of_nest
+      ∙ ap (λ x. (done ++ levels_of first (named (read op)) third x ∷ []) ++ rest p a q o) of_fork
+      ∙ ap (λ x. (done ++ one ∷ []) ++ rest x a q o) of_parts
+      ∙ ap (λ x. (done ++ one ∷ []) ++ rest (after count (read op)) x q o) of_around
+      ∙ ap (λ x. (done ++ one ∷ []) ++ rest (after count (read op)) (inside nest (read op)) x o) of_open
+      ∙ ap (λ x. (done ++ one ∷ []) ++ rest (after count (read op)) (inside nest (read op)) (leave (read op) there) x) of_opening ∙ told_one

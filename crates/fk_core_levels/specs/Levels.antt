@@ -1,10 +1,11 @@
 -- The levels in the frames of calls, one entry for each index of a list.
 use Rattle.std.specs.Prelude.{◌≡◌, ℕ, zero, suc, ◌+◌, ◌-◌, ◌<◌, ◌≤◌, nat_lt, Bool, true, false, List}
-use Rattle.std.specs.Prelude.{[], ◌∷◌, map, length, slice_get, Some, if◌then◌else◌}
+use Rattle.std.specs.Prelude.{[], ◌∷◌, map, length, slice_get, Some, if◌then◌else◌, None}
 use Rattle.fk_core.specs.declared.op.CoreOp.{CoreOp}
 use Rattle.fk_gen.specs.declared.placed.Levels.{Levels}
 use Rattle.fk_gen.specs.Levels.{levels_in}
 use Rattle.fk_core_levels.specs.Count.{read, here, after, inside, opens, counts, nests}
+use Rattle.fk_core_levels.specs.Forks.{Parts, come_to, fork_of, leave, forks}
 use Rattle.fk_core_levels.specs.Behind.{named, leads, IsBound, IsLeast}
 
 -- The words after which the levels of the frame begin, at each index.
@@ -12,28 +13,32 @@ abbrev pub behind_in : List Levels → (index : ℕ) → ℕ
 behind_in saved index = (levels_in saved index).behind
 
 -- The levels of a list: as many as parts are open, after the fewest words that are above all words
--- that their calls name.
+-- that their calls name; and how the last of them was left.
 pub record AreLevels (core : List CoreOp) (saved : List Levels) : Type 0 where
   pub long : length saved ≡ length core
   pub count : map (λ (l : Levels). l.count) saved ≡ counts core
   pub nest : map (λ (l : Levels). l.nest) saved ≡ nests core
+  pub fork : map (λ (l : Levels). l.fork) saved ≡ forks core
   pub bound : IsBound core (behind_in saved)
   pub least : IsLeast core (behind_in saved)
 
 -- ---- how they are found
 
 -- What is told of each operation by itself.
-abbrev pub told_from : (parts around : ℕ) → (opening : Bool) → List CoreOp → List Levels
-told_from parts around opening [] = []
-told_from parts around opening (op ∷ ops) =
+abbrev pub told_from : (parts around : ℕ) → Parts → (opening : Bool) → List CoreOp → List Levels
+told_from parts around open opening [] = []
+told_from parts around open opening (op ∷ ops) =
     let count = here parts (read op) in
     let nest = here around (read op) in
+    let there = come_to (read op) open in
     record {
       count = if opening then 0 else count;
       behind = named (read op);
       nest = if opening then 0 else nest;
+      fork = if opening then None else fork_of there.open;
     }
-    ∷ told_from (after count (read op)) (inside nest (read op)) (opens opening op) ops
+    ∷ told_from (after count (read op)) (inside nest (read op)) (leave (read op) there)
+    (opens opening op) ops
 
 -- The levels at an index begin after as many words at least.
 abbrev pub raised_one : Levels → (words : ℕ) → Levels
@@ -58,6 +63,7 @@ pub record IsSettling (core : List CoreOp) (saved : List Levels) : Type 0 where
   pub long : length saved ≡ length core
   pub count : map (λ (l : Levels). l.count) saved ≡ counts core
   pub nest : map (λ (l : Levels). l.nest) saved ≡ nests core
+  pub fork : map (λ (l : Levels). l.fork) saved ≡ forks core
   pub holds : (i : ℕ) (op : CoreOp) → slice_get core i ≡ Some op
       → named (read op) ≤ behind_in saved i
   pub least : IsLeast core (behind_in saved)

@@ -2,3 +2,4 @@ pub mod Count
 pub mod Forks
 pub mod Behind
 pub mod Levels
+pub mod Open

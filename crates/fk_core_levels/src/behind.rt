@@ -30,13 +30,7 @@ pub(crate) fn named(op: CoreOp) -> u32
 }
 
 // Where the running call goes on after an operation, on one of two ways.
-fn goes_on(
-    ops: &[CoreOp],
-    operation: Operation,
-    index: usize,
-    target: u32,
-    onward: bool,
-) -> usize
+fn goes_on(ops: &[CoreOp], operation: Operation, index: usize, target: u32, onward: bool) -> usize
     requires { index < length ops.now }
     ensures { result ≡ b.goes_on ops.now operation index target onward }
 {

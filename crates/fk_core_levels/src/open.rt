@@ -1,5 +1,10 @@
 //! The parts that are open in a list, and how their groups were left.
 
+ghost use Rattle.std.specs.Prelude.{◌≡◌, OnOk};
+ghost use Rattle.fk_core.specs.Numbers.{operation_of};
+ghost use Rattle.fk_core_levels.specs.Forks as f;
+ghost use Rattle.fk_core_levels.specs.Open.{parts_of};
+
 use fk_core::CoreOp;
 use fk_meaning_operation::{Operation, SplitKind};
 use std::alloc::{AllocError, Global};
@@ -22,7 +27,9 @@ pub(crate) struct OpenParts {
 }
 
 impl OpenParts {
-    pub(crate) fn new(alloc: Global) -> OpenParts {
+    pub(crate) fn new(alloc: Global) -> OpenParts
+        ensures { parts_of result ≡ f.no_part }
+    {
         OpenParts {
             parts: Vec::new(alloc),
             words: 0,
@@ -30,7 +37,10 @@ impl OpenParts {
     }
 
     /// At a resume the parts before it have ended.
-    pub(crate) fn come_to(&mut self, op: CoreOp) {
+    pub(crate) fn come_to(&mut self, op: CoreOp)
+        ensures { parts_of self.new
+            ≡ f.come_to (operation_of op.kind op.number) (parts_of self.old) }
+    {
         if let Some(Operation::Resume) = op.operation() {
             self.words = match self.parts.pop() {
                 Some(part) => part.words,
@@ -40,7 +50,9 @@ impl OpenParts {
     }
 
     /// How a `fork` left the group around the innermost part.
-    pub(crate) fn fork(&self) -> Option<u32> {
+    pub(crate) fn fork(&self) -> Option<u32>
+        ensures { result ≡ f.fork_of (parts_of self.now).open }
+    {
         match self.parts.last() {
             Some(part) => part.fork,
             None => None,
@@ -48,7 +60,10 @@ impl OpenParts {
     }
 
     /// A split opens a part without a frame, and the next part begins after the end of another.
-    pub(crate) fn leave(&mut self, op: CoreOp) -> Result<(), AllocError> {
+    pub(crate) fn leave(&mut self, op: CoreOp) -> Result<(), AllocError>
+        ensures { OnOk result (parts_of self.new
+            ≡ f.leave (operation_of op.kind op.number) (parts_of self.old)) }
+    {
         match op.operation() {
             Some(Operation::Split(by)) => self.open(by)?,
             Some(Operation::Frame { nesting, words }) => self.take(nesting, words),
@@ -58,7 +73,9 @@ impl OpenParts {
         Ok(())
     }
 
-    fn open(&mut self, by: SplitKind) -> Result<(), AllocError> {
+    fn open(&mut self, by: SplitKind) -> Result<(), AllocError>
+        ensures { OnOk result (parts_of self.new ≡ f.opened by (parts_of self.old)) }
+    {
         let fork = match by {
             SplitKind::Fork => Some(self.words),
             _ => None,
@@ -72,7 +89,9 @@ impl OpenParts {
     }
 
     // The function's own frame is in no part.
-    fn take(&mut self, nesting: u32, words: u32) {
+    fn take(&mut self, nesting: u32, words: u32)
+        ensures { parts_of self.new ≡ f.taken nesting words (parts_of self.old) }
+    {
         if nesting != 0 {
             self.words = words;
         }

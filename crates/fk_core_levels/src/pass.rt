@@ -1,6 +1,7 @@
 //! The levels of a list.
 
-ghost use Rattle.std.specs.Prelude.{◌≡◌, ◌<◌, ◌^◌, false, IfOk, if◌then◌else◌, length};
+ghost use Rattle.std.specs.Prelude.{◌≡◌, ◌<◌, ◌^◌, None, false, IfOk, if◌then◌else◌, length};
+ghost use Rattle.fk_core_levels.specs.Forks.{no_part};
 ghost use Rattle.fk_core_levels.specs.Levels as l;
 
 use crate::behind::{named, settle};
@@ -17,10 +18,16 @@ fn in_call(opening: bool, parts: u32) -> u32
     if opening { 0 } else { parts }
 }
 
+fn fork_in_call(opening: bool, fork: Option<u32>) -> Option<u32>
+    ensures { result ≡ (if opening then None else fork) }
+{
+    if opening { None } else { fork }
+}
+
 // What is told of each operation by itself.
 fn told(alloc: Global, ops: &[CoreOp]) -> Result<Vec<Levels>, AllocError>
     requires small { length ops.now < 2 ^ 31 }
-    ensures { IfOk result (λ saved. saved.items ≡ l.told_from 0 0 false ops.now) }
+    ensures { IfOk result (λ saved. saved.items ≡ l.told_from 0 0 no_part false ops.now) }
 {
     let mut saved = Vec::new(alloc);
     let mut parts = 0;
@@ -35,7 +42,7 @@ fn told(alloc: Global, ops: &[CoreOp]) -> Result<Vec<Levels>, AllocError>
             count: in_call(opening, count),
             behind: named(*op),
             nest: in_call(opening, nest),
-            fork: if opening { None } else { open.fork() },
+            fork: fork_in_call(opening, open.fork()),
         })?;
         open.leave(*op)?;
         parts = after(count, *op);

@@ -154,8 +154,7 @@ groups_with core places m m' address first i j call backs calls takes small kept
     let w = group_word (length calls) in
     let frame : put call.frames 0 first 0 ≡ first = same_word call.frames 0 first in
     let before : HaveGroupFrames frames m address backs calls =
-    subst (λ x. HaveGroupFrames frames m (before_call x address (m w)) backs calls) (takes.none refl) held.1 in
-    (
+    subst (λ x. HaveGroupFrames frames m (before_call x address (m w)) backs calls) (takes.none refl) held.1 in (
       subst (λ x. TellsFrame x (address_of first) (taking_call call 0 first)) (sym takes.group)
           record { within = subst (λ x. x ≤ 2 ^ 20) (sym frame) small; is = ap address_of (sym frame) },
       subst (λ x. HaveGroupFrames frames m' (before_call x (address_of first) (m' w)) backs calls) (sym takes.group)

@@ -3,7 +3,7 @@ use Rattle.std.proofs.Common.{◌≡◌, ℕ, ◌+◌, ◌≤◌, List, [], ◌�
 use Rattle.fk_num.specs.Word.{Memory}
 use Rattle.fk_space.specs.Space.{Space, IsSpace}
 use Rattle.fk_meaning_operation.specs.declared.operation.SplitKind.{SplitKind}
-use Rattle.fk_meaning_operation.specs.declared.operation.SplitKind.TheVariants.{IfAlone, IfElse, AndThen, OrElse, Loop}
+use Rattle.fk_meaning_operation.specs.declared.operation.SplitKind.TheVariants.{IfAlone, IfElse, AndThen, OrElse, Loop, Fork}
 use Rattle.fk_meaning_operation.specs.declared.operation.Operation.TheVariants.{Split}
 use Rattle.fk_meaning.specs.Processor.{Setting}
 use Rattle.fk_meaning.specs.Group.{has_parts}
@@ -29,6 +29,8 @@ use Rattle.fk_gen_group.proofs.OnePart.{one_divides}
 use Rattle.fk_gen_group.proofs.OnePart as one
 use Rattle.fk_gen_group.proofs.TwoParts.{two_divide}
 use Rattle.fk_gen_group.proofs.TwoParts as two
+use Rattle.fk_gen_group.proofs.ForkDivides.{fork_divides}
+use Rattle.fk_gen_group.proofs.ForkDivides as forks
 
 -- the words of the group's node are the first of its space
 low_is : (nestings : Nestings) (by : SplitKind) (space : Space) (count first : ℕ) (p : Owner) → IsToDivide nestings by space count p → first_word p.runner.has.level p.runner.has.outer ≡ first → first ≡ space.low
@@ -81,30 +83,38 @@ module _ (core : List CoreOp) (image : Image) (bound : ℕ → ℕ) (places : Pl
       (two_divide core image bound places nestings i op split setting space is_space many t mine first owns all_own are room t' holds
       (holds_in_cycles image (split_takes IfElse) t holds) (p ∷ ps) few own rest ms came)
 
-  by_kind : (by : SplitKind) → IsSplitInPlace core image bound places nestings i op by → is_implicit by ≡ true → (count : ℕ) → has_parts space count ≡ true → (ms : List Member) (p : Owner) (ps : List Owner)
+  by_kind : (by : SplitKind) → IsSplitInPlace core image bound places nestings i op by → (count : ℕ) → has_parts space count ≡ true → (ms : List Member) (p : Owner) (ps : List Owner)
       → length (p ∷ ps) ≤ 1024 → first ≡ space.low → Holds image t → Enter by ms (p ∷ ps) → AllAreToDivide nestings by space count (p ∷ ps) → Divides by (split_takes by) ms (p ∷ ps)
-  by_kind IfAlone split is count room ms p ps few low holds all divide =
+  by_kind IfAlone split count room ms p ps few low holds all divide =
       into_one IfAlone split refl refl refl (subst (λ k. has_parts space k ≡ true) (sym divide.0.count_is) room) ms p ps few low holds all
       (subst (λ k. AllAreToDivide nestings IfAlone space k (p ∷ ps)) (sym divide.0.count_is) divide)
-  by_kind AndThen split is count room ms p ps few low holds all divide =
+  by_kind AndThen split count room ms p ps few low holds all divide =
       into_one AndThen split refl refl refl (subst (λ k. has_parts space k ≡ true) (sym divide.0.count_is) room) ms p ps few low holds all
       (subst (λ k. AllAreToDivide nestings AndThen space k (p ∷ ps)) (sym divide.0.count_is) divide)
-  by_kind OrElse split is count room ms p ps few low holds all divide =
+  by_kind OrElse split count room ms p ps few low holds all divide =
       into_one OrElse split refl refl refl (subst (λ k. has_parts space k ≡ true) (sym divide.0.count_is) room) ms p ps few low holds all
       (subst (λ k. AllAreToDivide nestings OrElse space k (p ∷ ps)) (sym divide.0.count_is) divide)
-  by_kind Loop split is count room ms p ps few low holds all divide =
+  by_kind Loop split count room ms p ps few low holds all divide =
       into_one Loop split refl refl refl (subst (λ k. has_parts space k ≡ true) (sym divide.0.count_is) room) ms p ps few low holds all
       (subst (λ k. AllAreToDivide nestings Loop space k (p ∷ ps)) (sym divide.0.count_is) divide)
-  by_kind IfElse split is count room ms p ps few low holds all divide =
+  by_kind IfElse split count room ms p ps few low holds all divide =
       into_two split (subst (λ k. has_parts space k ≡ true) (sym divide.0.count_is) room) ms p ps few low holds all
       (subst (λ k. AllAreToDivide nestings IfElse space k (p ∷ ps)) (sym divide.0.count_is) divide)
-  by_kind by split is count room ms p ps few low holds all divide = absurd (cc)
+  by_kind Fork split count room ms p ps few low holds all divide =
+      let t' = later (in_cycles (split_takes Fork) t) in
+      let came = forks.came_all core image bound places nestings i op split setting space count is_space room t mine first owns all_own low ms (p ∷ ps) all divide in
+      together_map (core_source core setting) image mine t 1 27 ms (p ∷ ps) own
+      (λ ms' ds own'. (ds ≡ map (is_due core i op (Split Fork)) (p ∷ ps)) × Divided core image places nestings i op Fork setting t' first (p ∷ ps) ms' own')
+      (Goal Fork (p ∷ ps))
+      (λ ms' ds own' x. (x.0, x.1.0, x.1.1, x.1.2))
+      (fork_divides core image bound places nestings i op split setting space count is_space room t mine first owns all_own low t' holds
+      (holds_in_cycles image (split_takes Fork) t holds) (p ∷ ps) few own rest ms came)
 
 pub groups_divide : GroupsDivide
-groups_divide core image bound places nestings i op by is split setting t mine first space count ms [] own owns all_own all divide room rest =
+groups_divide core image bound places nestings i op by split setting t mine first space count ms [] own owns all_own all divide room rest =
     let some = divide.some in
     absurd (omega arith)
-groups_divide core image bound places nestings i op by is split setting t mine first space count [] (p ∷ ps) own owns all_own all divide room rest = absurd (assumption all)
-groups_divide core image bound places nestings i op by is split setting t mine first space count (m ∷ ms) (p ∷ ps) own owns all_own all divide room rest =
-    by_kind core image bound places nestings i op setting t mine first space owns all_own divide.is_space own rest by split is count room (m ∷ ms) p ps divide.few
+groups_divide core image bound places nestings i op by split setting t mine first space count [] (p ∷ ps) own owns all_own all divide room rest = absurd (assumption all)
+groups_divide core image bound places nestings i op by split setting t mine first space count (m ∷ ms) (p ∷ ps) own owns all_own all divide room rest =
+    by_kind core image bound places nestings i op setting t mine first space owns all_own divide.is_space own rest by split count room (m ∷ ms) p ps divide.few
     (low_is nestings by space count first p divide.all.0 all.1.words) all.0.running.code all divide.all

@@ -39,7 +39,7 @@ use Rattle.fk_gen.proofs.Walk.{Quiets, Plain, LocalAt, CanWalk, Told, quiet_line
 use Rattle.fk_gen.proofs.Jumps.{jumps, jal_private}
 use Rattle.fk_gen.proofs.Does.{quiet_length, holds_in_cycles}
 use Rattle.fk_gen.proofs.Standing.{InMemory, in_memory, stands_with, with_list, nothing_written}
-use Rattle.fk_gen_group.specs.Splits.{end_part_block, end_part_by, end_part_takes, frames_end, header_frames, forked_front, out_of_fork, last_level}
+use Rattle.fk_gen_group.specs.Splits.{end_part_block, end_part_by, end_part_takes, frames_end, header_frames, found_line, forked_front, away_line, out_of_fork, last_level}
 use Rattle.fk_gen_group.specs.Blocks.{end_block, end_by}
 use Rattle.fk_gen_group.specs.Laws.{IsInPlace, levels_at, last_fork}
 use Rattle.fk_gen_group.proofs.Levels.{many_callers}
@@ -54,11 +54,11 @@ ends_by false true number h = (Addi t0 node_register (low_part number), Plain) �
 ends_by false false number h =
     (Lui t0 (high_part number), Plain) ∷ (Addi t0 t0 (low_part number), Plain) ∷ (Add t0 t0 node_register, Plain) ∷ (Addi frames_register t0 0, Plain) ∷ []
 
-abbrev lines_by : (first short : Bool) → (number : ℕ) → List Instruction
+abbrev lines_by : (first short : Bool) → (number : ℕ) → List MarkedLine
 lines_by first short number =
-    if first then header_frames else add_by short number node_register ++ Addi frames_register t0 0 ∷ []
+    if first then header_frames else map quiet (add_by short number node_register) ++ found_line
 
-ends_lines : (first short : Bool) (number : ℕ) (h : Hart) → quiet_lines (ends_by first short number h) ≡ map quiet (lines_by first short number)
+ends_lines : (first short : Bool) (number : ℕ) (h : Hart) → quiet_lines (ends_by first short number h) ≡ lines_by first short number
 ends_lines true short number h = refl
 ends_lines false true number h = refl
 ends_lines false false number h = refl
@@ -85,7 +85,7 @@ ends_keep told false false number h g = record { live = refl; local = refl; othe
 module _ (core : List CoreOp) (image : Image) (bound : ℕ → ℕ) (places : Places) (nestings : Nestings) (i : ℕ) (op : CoreOp) (place : IsInPlace core image bound places nestings i op End)
     (opens : LevelOpens nestings op.target i) (words : ℕ) (forked : last_fork nestings i ≡ Some words) (first short : Bool) (first_is : (nestings.levels i == 1) ≡ first)
     (short_is : (high_part (32 + 4 * words) == 0) ≡ short)
-    (lines : LinesAt image bound (places.block i) (forked_front (last_level (levels_at nestings i)) ++ (map quiet (lines_by first short (32 + 4 * words)) ++ goes_to (Jal zero_register 0) (label_of op.target) ∷ [])))
+    (lines : LinesAt image bound (places.block i) (forked_front (last_level (levels_at nestings i)) ++ (lines_by first short (32 + 4 * words) ++ away_line op.target)))
     (setting : Setting) (cycle0 : MachineSetting) (mine : Words) (begin : ℕ) (owns : OwnsHeader mine begin) where
   record Came (m : Member) (p : Owner) : Type 0 where
     pub enters : Enters core image places setting cycle0 i op End p m.hart
@@ -173,11 +173,11 @@ module _ (core : List CoreOp) (image : Image) (bound : ℕ → ℕ) (places : Pl
         let told = told_of t m.number in
         let k = suc (places.block i) in
         let fronts = quiet_lines (front m.hart) in
-        let jump : List MarkedLine = goes_to (Jal zero_register 0) (label_of op.target) ∷ [] in
+        let jump = away_line op.target in
         let one = slot_at 1 (omega arith) in
         let two = slot_at 2 (omega arith) in
         let three = slot_at 3 (omega arith) in
-        let a = lines_split image bound k fronts (map quiet (lines_by first short number) ++ jump) lines.1 in
+        let a = lines_split image bound k fronts (lines_by first short number ++ jump) lines.1 in
         let w = walked image bound t m.number holds (front m.hart) k (committed m.hart) a.0 pc en.at.live
         (tt, (tt, ((one.within, one.address), ((two.within, two.address), ((three.within, three.address), tt))))) in
         let ends = ends_by first short number m.hart in
@@ -208,9 +208,10 @@ module _ (core : List CoreOp) (image : Image) (bound : ℕ → ℕ) (places : Pl
         (subst (λ a. HasOuter places nestings setting.processors (number_of p) m.hart.local (a ∷ callers) p.runner.has.outer) en.index came.member.node.outer.0)) in
         let levels = opens.levels in
         let last : nestings.levels i - 1 ≡ nestings.levels op.target = omega arith in
-        let some : nestings.forks i (nestings.levels op.target) ≡ Some words = ap (nestings.forks i) (sym last) ∙ forked in
-        (subst (λ f. HasLevelBy f m.hart.local (frames_word (length callers)) (saved_at places nestings (length callers) i + 4 * nestings.levels op.target) (nestings.levels op.target) part.around (part.beyond ∷ part.further)) some told.0,
-        told.1)
+        let some : nestings.forks i (nestings.levels op.target) ≡ Some words = ap (nestings.forks i) (sym last) ∙ forked in (
+          subst (λ f. HasLevelBy f m.hart.local (frames_word (length callers)) (saved_at places nestings (length callers) i + 4 * nestings.levels op.target) (nestings.levels op.target) part.around (part.beyond ∷ part.further)) some told.0,
+          told.1,
+        )
 
     word_at : (w k : ℕ) → w ≡ out + k → IsSlot places n w m.hart → m.hart.local (slot_of w m.hart) ≡ m.hart.local (saved_at places nestings (length callers) i + 4 * nestings.levels op.target + k)
     word_at w k e slot =
@@ -267,7 +268,7 @@ module _ (core : List CoreOp) (image : Image) (bound : ℕ → ℕ) (places : Pl
         let ordered = part.is_space.ordered in
         let within = part.is_space.within in
         let top = part.is_space.shared in
-        let sum = sum_of_low ((fronted told m.hart).registers node_register) (low_part number) number (number_of_low_part number e) in
+        let sum = sum_of_low (m.hart.local (slot_of (out + 1) m.hart)) (low_part number) number (number_of_low_part number e) in
         ap (λ x. word_sum x 0) sum ∙ omega arith
     sum_tells told false e c more =
         let node = node_is in
@@ -275,7 +276,7 @@ module _ (core : List CoreOp) (image : Image) (bound : ℕ → ℕ) (places : Pl
         let ordered = part.is_space.ordered in
         let within = part.is_space.within in
         let top = part.is_space.shared in
-        let sum = sum_of_parts ((fronted told m.hart).registers node_register) (word_sum (high_part number * 4096) (low_part number)) number (number_of_parts number) in
+        let sum = sum_of_parts (m.hart.local (slot_of (out + 1) m.hart)) (word_sum (high_part number * 4096) (low_part number)) number (number_of_parts number) in
         ap (λ x. word_sum x 0) sum ∙ omega arith
 
     frames_are : (told : Told) → (ended_hart told m.hart).registers frames_register ≡ control_address part.around.space.frames
@@ -432,11 +433,11 @@ fork_part_ends core image bound places nestings i op place leads words forked se
         × AllMove core image places nestings i op End setting (later t) (λ onward. end_part_takes (Some words) (nestings.levels i)) (λ q. None) 0 ms' (p ∷ ps) × (own' ≡ own))
     by f s e h opens lines =
         let front = forked_front (last_level (levels_at nestings i)) in
-        let jump : List MarkedLine = goes_to (Jal zero_register 0) (label_of op.target) ∷ [] in
+        let jump = away_line op.target in
         let shape : lines_by f s (32 + 4 * words) ≡ frames_end (nestings.levels i) words =
         sym (ap (λ b. lines_by b (high_part (32 + 4 * words) == 0) (32 + 4 * words)) e ∙ ap (λ b. lines_by f b (32 + 4 * words)) h) in
-        let lines' = subst (λ l. LinesAt image bound (places.block i) (front ++ (map quiet l ++ jump))) (sym shape) lines in
-        let many = ap (λ (l : List Instruction). 6 + length l) shape in
+        let lines' = subst (λ l. LinesAt image bound (places.block i) (front ++ (l ++ jump))) (sym shape) lines in
+        let many = ap (λ (l : List MarkedLine). 6 + length l) shape in
         let came = came_all core image bound places nestings i op place opens words forked f s e h lines' setting t mine first owns (m ∷ ms) (p ∷ ps) all part in
         let Gone : ℕ → List Member → Type 0 = λ c ms'. AllMove core image places nestings i op End setting (later t) (λ onward. c) (λ q. None) 0 ms' (p ∷ ps) in
         together_map (core_source core setting) image mine t 1 0 (m ∷ ms) (p ∷ ps) own

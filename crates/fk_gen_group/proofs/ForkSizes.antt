@@ -114,12 +114,22 @@ number_of_part p j e = by (nat_lt i k) refl e
 
 module _ (space : Space) (first k : ℕ) (is_space : IsSpace space) (low : first ≡ space.low) (room : has_parts space k ≡ true) where
   -- a part that there is
-  large : (j : ℕ) → j < k → (16 ≤ equal_part space k) × (1 ≤ k)
+  pub large : (j : ℕ) → j < k → (16 ≤ equal_part space k) × (1 ≤ k)
   large j lt = by k room lt
     where
       by : (c : ℕ) → has_parts space c ≡ true → j < c → (16 ≤ equal_part space c) × (1 ≤ c)
       by zero e lt = absurd (omega arith)
       by (suc c) e lt = (part_is_large space c e, omega arith)
+
+  pub ends_in : (j : ℕ) → j < k → word_at space first k (Some j) + equal_part space k ≤ space.blocks
+  ends_in j lt = by k room lt
+    where
+      by : (c : ℕ) → has_parts space c ≡ true → j < c → word_at space first c (Some j) + equal_part space c ≤ space.blocks
+      by zero e less = absurd (omega arith)
+      by (suc c) e less =
+          let ends = part_ends space c j e less in
+          let ordered = is_space.ordered in
+          omega (arith, ends, ordered)
 
   no_neighbours : (j l : ℕ) → j < k → l < k → j * equal_part space k + 1 ≡ l * equal_part space k → ⊥
   no_neighbours j l a b e = elim (cases_lt j l) [

@@ -25,7 +25,8 @@ use Rattle.fk_sim_block.specs.Node.{Nestings, OwnsHeader, OwnsSpace, IsAtRest, K
 use Rattle.fk_sim_block.specs.Lockstep.{IsMember, AllEnter, ComesByWay, LevelsStay, LevelOpens, highest_value, is_due}
 use Rattle.fk_sim_block.specs.Parts.{IsToDivide, IsToFork, HasFrameWords, AllAreToDivide, part_of, parts_of, size_behind}
 use Rattle.fk_gen.specs.Registers.{ra, t0, t1, t2, t3, t4, t5, t6}
-use Rattle.fk_gen.specs.Lines.{goes_to, at_private, at_value, label_of}
+use Rattle.fk_asm.specs.Block.{MarkedLine}
+use Rattle.fk_gen.specs.Lines.{quiet, goes_to, at_private, at_value, label_of}
 use Rattle.fk_gen.specs.InPlace.{LinesAt, HasLabels}
 use Rattle.fk_gen.proofs.Values.{same_word, other_word, values_before, value_place}
 use Rattle.fk_gen.proofs.Walk.{Quiets, Plain, LocalAt, CanWalk, Told, walk, told_of, walked, lines_split, private, runs_join}
@@ -156,7 +157,6 @@ saves told first h s word size share index rank b =
     stays : (r : ℕ) → 7 < r → r < 28 → h.registers r ≡ first.registers r
     stays r lt less = b.others r (λ e. omega arith) (λ e. omega arith) (λ e. omega arith) (λ e. omega arith) (λ e. omega arith) (λ e. omega arith) (λ e. omega arith) (λ e. omega arith)
 
-
 -- ---- the ways
 
 module _ (image : Image) (bound : ℕ → ℕ) (places : Places) (shared : HasParts image bound) (t : MachineSetting) (number link target site : ℕ)
@@ -264,6 +264,9 @@ module _ (image : Image) (bound : ℕ → ℕ) (places : Places) (shared : HasPa
 
 -- ---- the header
 
+pub no_heading : (n : ℕ) → heading_by (suc n) ≡ []
+no_heading n = ap (λ b. if b then quiet (Sw end_register t3 (at_value 60)) ∷ [] else []) (ne_eqb (suc n) 0 (λ e. omega arith))
+
 -- who enters from the first level stores where the frames of its group end
 module _ (image : Image) (bound : ℕ → ℕ) (t : MachineSetting) (number k waiting : ℕ) (holds : Holds image t) (h : Hart) (live : h.ended ≡ false) (pc : h.pc ≡ 4 * k)
     (within : value_word 60 h < 32768) (address : word_sum (h.registers end_register) (at_value 60) ≡ local_address (value_word 60 h)) where
@@ -277,4 +280,5 @@ module _ (image : Image) (bound : ℕ → ℕ) (t : MachineSetting) (number k wa
       let quiets : Quiets = (Sw end_register t3 (at_value 60), LocalAt (value_word 60 h)) ∷ [] in
       let w = walked image bound t number holds quiets k h lines pc live ((within, address), tt) in
       (w.runs, w.pc)
-  heading_runs (suc n) lines = (refl, pc ∙ omega arith)
+  heading_runs (suc n) lines =
+      subst (λ (l : List MarkedLine). RunsPrivately image t number (length l) h h × (h.pc ≡ 4 * (k + length l))) (sym (no_heading n)) (refl, pc ∙ omega arith)

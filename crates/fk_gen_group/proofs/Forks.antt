@@ -41,7 +41,7 @@ use Rattle.fk_gen_group.specs.Laws.{IsInPlace}
 use Rattle.fk_gen_group.proofs.Last.{value_word}
 use Rattle.fk_gen_group.proofs.Sizes.{positive, positive_is}
 use Rattle.fk_gen_group.proofs.PartSizes.{word_at}
-use Rattle.fk_gen_group.proofs.ForkSizes.{entry, entry_of, room_of, share_of, part_ends, number_of_part}
+use Rattle.fk_gen_group.proofs.ForkSizes.{entry, entry_of, room_of, share_of, part_ends, ends_in, number_of_part}
 
 -- ---- the values
 
@@ -76,22 +76,21 @@ module _ (core : List CoreOp) (image : Image) (bound : ℕ → ℕ) (places : Pl
     pub next : places.block (suc i) ≡ fork_link + 4 + length (heading_by (nestings.levels i))
 
   -- the value before some of the last ones
-  value_at : (k : ℕ) → k < 3 → (value_word (op.depth - k) m.hart < 32768) × (word_sum (m.hart.registers end_register) (at_value (op.depth - k)) ≡ local_address (value_word (op.depth - k) m.hart))
-      × (m.hart.local (value_word (op.depth - k) m.hart) ≡ last (before k vs))
-  value_at k lt =
+  value_at : (place' k : ℕ) → place' ≡ op.depth - k → k < 3 → (value_word place' m.hart < 32768) × (word_sum (m.hart.registers end_register) (at_value place') ≡ local_address (value_word place' m.hart))
+      × (m.hart.local (value_word place' m.hart) ≡ last (before k vs))
+  value_at place' k e lt =
       let header = place.fits.room.header in
       let filled = place.values in
       let calls = en.ready.in_range.waiting in
       let depth = en.ready.depth in
-      let at = value_place (m.hart.registers end_register) n (op.depth - k) en.at.stands.behind calls (omega arith) (omega arith) in
+      let at = value_place (m.hart.registers end_register) n place' en.at.stands.behind calls (omega arith) (omega arith) in
       let within = at.0 in
       let address = at.1 in
-      let index : value_word (op.depth - k) m.hart ≡ frame_end n - (op.depth - k) = omega arith in
-      let many = length_before k vs in
-      (
+      let index : value_word place' m.hart ≡ frame_end n - place' = omega arith in
+      let many = length_before k vs in (
         omega arith,
         address ∙ ap local_address (sym index),
-        ap m.hart.local index ∙ operand_is (value_in m.hart n) (op.depth - k) (before k vs) (values_before k (value_in m.hart n) vs en.at.stands.running.values) (omega arith) (omega arith),
+        ap m.hart.local index ∙ operand_is (value_in m.hart n) place' (before k vs) (values_before k (value_in m.hart n) vs en.at.stands.running.values) (omega arith) (omega arith),
       )
 
   pub fork_fronted : Fronted
@@ -99,9 +98,9 @@ module _ (core : List CoreOp) (image : Image) (bound : ℕ → ℕ) (places : Pl
       let k = places.block i in
       let told = told_of t m.number in
       let pc : m.hart.pc ≡ 4 * k = en.at.at ∙ ap (λ j. 4 * places.block j) en.index in
-      let three = value_at 2 (omega arith) in
-      let two = value_at 1 (omega arith) in
-      let one = value_at 0 (omega arith) in
+      let three = value_at (op.depth - 2) 2 refl (omega arith) in
+      let two = value_at (op.depth - 1) 1 refl (omega arith) in
+      let one = value_at op.depth 0 (omega arith) (omega arith) in
       let quiets : Quiets =
       (operand t3 (op.depth - 2), LocalAt (value_word (op.depth - 2) m.hart)) ∷ (operand t4 (op.depth - 1), LocalAt (value_word (op.depth - 1) m.hart)) ∷
       (operand t5 op.depth, LocalAt (value_word op.depth m.hart)) ∷ (Addi t2 frame_register (at_private (nestings.behind i + 4 * nestings.levels i)), Plain) ∷ [] in
@@ -255,22 +254,11 @@ module _ (core : List CoreOp) (image : Image) (bound : ℕ → ℕ) (places : Pl
               let few : equal_part space (suc c) ≤ 2 ^ 20 = omega (arith, ends, within, top) in
               ap (λ x. applied num.Shl (word_sum x (2 ^ 32 - 4)) 2) q ∙ omega (arith, few)
 
-      -- a part ends in the space
-      pub ends_within : (j : ℕ) → j < count → word_at space first count (Some j) + equal_part space count ≤ space.blocks
-      ends_within j lt = by count room lt
-        where
-          by : (c : ℕ) → has_parts space c ≡ true → j < c → word_at space first c (Some j) + equal_part space c ≤ space.blocks
-          by zero e less = absurd (omega arith)
-          by (suc c) e less =
-              let ends = part_ends space c j e less in
-              let ordered = is_space.ordered in
-              omega (arith, ends, ordered)
-
       -- who enters comes to its part
       enters_word : (j : ℕ) → j < count → reached j count bytes (control_address space.frames) 1 (control_address first) ≡ control_address (word_at space first count (Some j))
       enters_word j lt =
           let b = share_bytes j lt in
-          let ends = ends_within j lt in
+          let ends = ends_in space first count is_space low_is room j lt in
           let header = is_space.header in
           let ordered = is_space.ordered in
           let within = is_space.within in

@@ -1,5 +1,5 @@
 -- Blocks that keep the words of frames keep their harts in their nodes.
-use Rattle.std.proofs.Common.{◌≡◌, ℕ, zero, suc, ◌+◌, ◌-◌, ◌*◌, ◌<◌, ◌≤◌, List, [], ◌∷◌, length, Bool, true, false, Option, sym, ap, subst, ◌∙◌, arith, refl, inl, inr, ⊎_elim}
+use Rattle.std.proofs.Common.{◌≡◌, ℕ, zero, suc, ◌+◌, ◌-◌, ◌*◌, ◌<◌, ◌≤◌, List, [], ◌∷◌, length, Bool, true, false, Option, sym, ap, subst, ◌∙◌, arith, refl, inl, inr, ⊎_elim, Some, None}
 use Rattle.std.specs.Prelude.{◌==◌, nat_lt, if◌then◌else◌, drop}
 use Rattle.std.proofs.lemmas.Bool.{eqb-true}
 use Rattle.fk_meaning_operation.specs.Kinds.{class_of}
@@ -35,7 +35,7 @@ use Rattle.fk_gen.specs.Lines.{label_of}
 use Rattle.fk_gen.proofs.Standing.{groups_go, stands_with}
 use Rattle.fk_gen.proofs.Jumps.{jumps, jal_private}
 use Rattle.fk_gen.proofs.Does.{local_part, asks, hired_part}
-use Rattle.fk_sim_block.specs.Node.{Nestings, StandsInNode, KnowsSpace, HasOuter, HasSaved, HasNestings, LieBelow, saved_at, first_word, control_address, node_register, body_register, frames_register, blocks_register, frames_word}
+use Rattle.fk_sim_block.specs.Node.{Nestings, StandsInNode, KnowsSpace, HasOuter, HasLevelBy, HasSaved, HasNestings, LieBelow, saved_at, first_word, control_address, node_register, body_register, frames_register, blocks_register, frames_word}
 use Rattle.fk_sim_block.proofs.Spaces.{space_kept}
 use Rattle.fk_sim_block.specs.Lockstep.{IsMember}
 use Rattle.fk_sim_block.specs.Law.{Cycles, BlockDoesInNode, HasDoneInNode, way_by, way_of}
@@ -309,20 +309,25 @@ tail_of : List Level → List Level
 tail_of [] = []
 tail_of (y ∷ ys) = ys
 
+-- the node of a level, however it was left
+level_node : (memory : ℕ → ℕ) (fork : Option ℕ) (header at number : ℕ) (l : Level) (outer : List Level) → HasLevelBy fork memory header at number l outer → memory (at + 1) ≡ control_address (first_word l outer)
+level_node memory None header at number l outer held = held.node
+level_node memory (Some words) header at number l outer held = held.node
+
 -- the node of a level, of so many that are saved
-saved_node : (memory : ℕ → ℕ) (at count out : ℕ) (levels : List Level) (level around : Level) (further : List Level) → HasSaved memory at count levels → out < count
+saved_node : (memory : ℕ → ℕ) (forks : ℕ → Option ℕ) (header at count out : ℕ) (levels : List Level) (level around : Level) (further : List Level) → HasSaved memory forks header at count levels → out < count
     → drop out levels ≡ level ∷ around ∷ further → memory (at + 4 * (count - suc out) + 1) ≡ control_address level.space.low
 unfolding head_or tail_of
-saved_node memory at zero out levels level around further saved lt there = absurd (let z : ⊥ = omega (arith, lt) in z)
-saved_node memory at (suc n) out [] level around further saved lt there = absurd (assumption saved)
-saved_node memory at (suc n) zero (l ∷ levels) level around further saved lt there =
+saved_node memory forks header at zero out levels level around further saved lt there = absurd (let z : ⊥ = omega (arith, lt) in z)
+saved_node memory forks header at (suc n) out [] level around further saved lt there = absurd (assumption saved)
+saved_node memory forks header at (suc n) zero (l ∷ levels) level around further saved lt there =
     let first : l ≡ level = ap (head_or l) there in
     let rest : levels ≡ around ∷ further = ap tail_of there in
     let e : suc n - suc zero ≡ n = omega arith in
-    ap (λ k. memory (at + 4 * k + 1)) e ∙ saved.0.node ∙ ap (λ o. control_address (first_word l o)) rest ∙ ap (λ (x : Level). control_address x.space.low) first
-saved_node memory at (suc n) (suc out) (l ∷ levels) level around further saved lt there =
+    ap (λ k. memory (at + 4 * k + 1)) e ∙ level_node memory (forks n) header (at + 4 * n) n l levels saved.0 ∙ ap (λ o. control_address (first_word l o)) rest ∙ ap (λ (x : Level). control_address x.space.low) first
+saved_node memory forks header at (suc n) (suc out) (l ∷ levels) level around further saved lt there =
     let e : suc n - suc (suc out) ≡ n - suc out = omega arith in
-    ap (λ k. memory (at + 4 * k + 1)) e ∙ saved_node memory at n out levels level around further saved.1 (omega arith) there
+    ap (λ k. memory (at + 4 * k + 1)) e ∙ saved_node memory forks header at n out levels level around further saved.1 (omega arith) there
 
 module _ (places : Places) (nestings : Nestings) (setting : Setting) (i : ℕ) (runs : Option ℕ) (first : ℕ) (m : Member) (p : Owner) (at : p.runner.left.at ≡ i) (most : nestings.nest i ≤ suc (nestings.levels i))
     (member : IsMember places nestings setting runs first m p) where
@@ -350,7 +355,7 @@ module _ (places : Places) (nestings : Nestings) (setting : Setting) (i : ℕ) (
       ap (λ k. saved_at places nestings k p.runner.left.at) many ∙ ap (saved_at places nestings n) at in
       let count : nestings.levels p.runner.left.at ≡ nestings.levels i = ap nestings.levels at in
       let found : m.hart.local (start + 4 * (nestings.levels p.runner.left.at - suc out) + 1) ≡ control_address level.space.low =
-      saved_node m.hart.local start (nestings.levels p.runner.left.at) out p.runner.has.outer level around further saved (omega arith) there in
+      saved_node m.hart.local (nestings.forks p.runner.left.at) (frames_word (length p.runner.left.callers)) start (nestings.levels p.runner.left.at) out p.runner.has.outer level around further saved (omega arith) there in
       let place : start + 4 * (nestings.levels p.runner.left.at - suc out) + 1 ≡ frame_start places n + 7 + (nestings.behind i + 4 * (nestings.levels i - suc out) + 1) = omega arith in
       ap m.hart.local (sym place) ∙ found
 

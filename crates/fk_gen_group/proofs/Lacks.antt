@@ -6,7 +6,7 @@ use Rattle.fk_num.specs.Op.{applied}
 use Rattle.fk_num.specs.declared.operator.Op.TheVariants as num
 use Rattle.fk_space.specs.Space.{Space, IsSpace, free}
 use Rattle.fk_meaning_operation.specs.declared.operation.SplitKind.{SplitKind}
-use Rattle.fk_meaning_operation.specs.declared.operation.SplitKind.TheVariants.{IfAlone, IfElse, AndThen, OrElse, Loop}
+use Rattle.fk_meaning_operation.specs.declared.operation.SplitKind.TheVariants.{IfAlone, IfElse, AndThen, OrElse, Loop, Fork}
 use Rattle.fk_meaning_operation.specs.declared.operation.Operation.TheVariants.{Split}
 use Rattle.fk_meaning.specs.Processor.{Setting, values}
 use Rattle.fk_meaning.specs.Group.{parts, has_parts}
@@ -33,16 +33,70 @@ use Rattle.fk_sim_block.specs.Node.{Nestings, OwnsHeader, KnowsSpace, control_ad
 use Rattle.fk_sim_block.specs.Lockstep.{IsMember, AllEnter}
 use Rattle.fk_sim_block.specs.Parts.{IsToDivide, AllAreToDivide}
 use Rattle.fk_gen.specs.Registers.{ra, t0, t1}
-use Rattle.fk_gen.specs.Lines.{high_part, low_part}
+use Rattle.fk_gen.specs.Lines.{goes_to, label_of, high_part, low_part}
+use Rattle.fk_gen.specs.InPlace.{LinesAt}
 use Rattle.fk_gen.proofs.Difference.{difference}
 use Rattle.fk_gen.proofs.Values.{number_of_parts}
 use Rattle.fk_gen.proofs.Walk.{private, runs_join}
 use Rattle.fk_gen.proofs.Jumps.{jumps, goes_to_pc, jalr_goes, bgeu_on}
 use Rattle.fk_gen.proofs.Does.{holds_in_cycles}
-use Rattle.fk_gen_group.specs.Splits.{HasParts, part_lines, parts_label, one_part_label, two_parts_label, split_faults_in}
+use Rattle.fk_gen_group.specs.Splits.{HasParts, part_lines, parts_label, one_part_label, two_parts_label, fork_label, no_room, split_faults_in}
 use Rattle.fk_gen_group.specs.Laws.{IsInPlace, IsSplitInPlace, GroupsLackRoom}
 use Rattle.fk_gen_group.proofs.Members.{fault_part}
-use Rattle.fk_gen_group.proofs.Fronts.{is_implicit, Fronted, fronted, full_of_one, full_of_two, link_at}
+use Rattle.fk_gen_group.proofs.ForkSizes.{full_of}
+use Rattle.fk_gen_group.proofs.Forks as forks
+use Rattle.fk_gen_group.proofs.Fronts.{Fronted, fronted, full_of_one, full_of_two, link_at}
+
+module _ (core : List CoreOp) (image : Image) (bound : ℕ → ℕ) (places : Places) (nestings : Nestings) (i : ℕ) (op : CoreOp) (by : SplitKind)
+    (place : IsInPlace core image bound places nestings i op (Split by)) (small : op.site < 2 ^ 32)
+    (setting : Setting) (space : Space) (count : ℕ) (full : has_parts space count ≡ false)
+    (cycle0 : MachineSetting) (m : Member) (p : Owner) (en : Enters core image places setting cycle0 i op (Split by) p m.hart)
+    (divides : IsToDivide nestings by space count p) (link : ℕ) (back : LinesAt image bound link (goes_to (Jal zero_register 0) (label_of op.target) ∷ no_room op.site)) where
+  abbrev pub Faulting : ℕ → Type 0
+  Faulting before = OneDoes (core_source core setting) image cycle0 1 before 0 m p (λ h d. ⊥)
+
+  -- ---- the lines that fault
+
+  pub faults_from : (c : ℕ) (h4 : Hart) → RunsPrivately image cycle0 m.number c m.hart h4 → h4.pc ≡ 4 * suc link → h4.ended ≡ false → h4.registers device_register ≡ 0x30000000 → Faulting (c + 2)
+  faults_from c h4 runs e4 live device =
+      let k = suc link in
+      let holds = en.running.code in
+      let cycle4 = in_cycles c cycle0 in
+      let cycle5 = later cycle4 in
+      let cycle6 = in_cycles (c + 2) cycle0 in
+      let l4 = back.1.0 in
+      let l5 = back.1.1.0 in
+      let l6 = back.1.1.1.0 in
+      let near = l6.within in
+      let v4 = high_part op.site * 4096 in
+      let v5 = word_sum v4 (low_part op.site) in
+      let h5 = writes h4 t1 v4 in
+      let h6 = writes h5 t1 v5 in
+      let holds4 = holds_in_cycles image c cycle0 holds in
+      let e5 : h5.pc ≡ 4 * suc k = omega arith in
+      let e6 : h6.pc ≡ 4 * suc (suc k) = omega arith in
+      let full_is = ap (λ (s : Space). has_parts s (parts by (values p.runner.has))) divides.space_is ∙ ap (has_parts space) divides.count_is ∙ full in
+      let site_is : word op.site ≡ op.site = omega arith in
+      record {
+        committing = h6;
+        runs = runs_join image cycle0 m.number c 2 m.hart h4 h6 runs (
+          h5,
+          private image cycle4 m.number k (Lui t1 (high_part op.site)) h4 h5 holds4 l4 e4 live (λ s. (s.reserved, refl)),
+          (h6, private image cycle5 m.number (suc k) (Addi t1 t1 (low_part op.site)) h5 h6 holds4 l5 e5 live (λ s. (s.reserved, refl)), refl),
+        );
+        commits = record {
+          live = live;
+          counted = ap (count_in image.commits.items) e6 ∙ l6.counted;
+          does = λ s. inr (record {
+            site = op.site;
+            part = fault_part core setting i op (Split by) s p place.stands refl full_is en.index;
+            stops = λ earlier sh shows.
+                step_at image (suc (suc k)) 1 (Sw device_register t1 8) l6 cycle6 (holds_in_cycles image (c + 2) cycle0 holds) m.number h6 sh e6
+                ∙ sw-fault cycle6 m.number 26 6 8 h6 sh (omega (arith, device)) (ap (λ a. place_of (word_sum a 8)) device ∙ place_of-fault)
+                ∙ ap (λ v. Stops (Faulted v m.number)) (number_of_parts op.site ∙ site_is);
+          });
+        };
+      }
 
 module _ (core : List CoreOp) (image : Image) (bound : ℕ → ℕ) (places : Places) (nestings : Nestings) (i : ℕ) (op : CoreOp) (by : SplitKind)
     (place : IsInPlace core image bound places nestings i op (Split by)) (shared : HasParts image bound) (small : op.site < 2 ^ 32)
@@ -58,8 +112,8 @@ module _ (core : List CoreOp) (image : Image) (bound : ℕ → ℕ) (places : Pl
   abbrev h1 : Hart
   h1 = front.hart
 
-  abbrev Faulting : ℕ → Type 0
-  Faulting before = OneDoes (core_source core setting) image cycle0 1 before 0 m p (λ h d. ⊥)
+  abbrev Faults : ℕ → Type 0
+  Faults before = OneDoes (core_source core setting) image cycle0 1 before 0 m p (λ h d. ⊥)
 
   -- where its group's free words begin and end
   known : (h1.registers frames_register ≡ control_address space.frames) × (h1.registers blocks_register ≡ control_address space.blocks)
@@ -69,55 +123,12 @@ module _ (core : List CoreOp) (image : Image) (bound : ℕ → ℕ) (places : Pl
         front.others 13 (λ e. omega arith) (λ e. omega arith) (λ e. omega arith) (λ e. omega arith) ∙ k.1 ∙ ap (λ (s : Space). control_address s.blocks) divides.space_is,
       )
 
-  -- ---- the lines that fault
-
-  faults_from : (c : ℕ) (h4 : Hart) → RunsPrivately image cycle0 m.number c m.hart h4 → h4.pc ≡ 4 * suc link → h4.ended ≡ false → h4.registers device_register ≡ 0x30000000 → Faulting (c + 2)
-  faults_from c h4 runs e4 live device =
-      let k = suc link in
-      let holds = en.running.code in
-      let cycle4 = in_cycles c cycle0 in
-      let cycle5 = later cycle4 in
-      let cycle6 = in_cycles (c + 2) cycle0 in
-      let l4 = front.back.1.0 in
-      let l5 = front.back.1.1.0 in
-      let l6 = front.back.1.1.1.0 in
-      let near = l6.within in
-      let v4 = high_part op.site * 4096 in
-      let v5 = word_sum v4 (low_part op.site) in
-      let h5 = writes h4 t1 v4 in
-      let h6 = writes h5 t1 v5 in
-      let holds4 = holds_in_cycles image c cycle0 holds in
-      let e5 : h5.pc ≡ 4 * suc k = omega arith in
-      let e6 : h6.pc ≡ 4 * suc (suc k) = omega arith in
-      let no_room = ap (λ (s : Space). has_parts s (parts by (values p.runner.has))) divides.space_is ∙ ap (has_parts space) divides.count_is ∙ full in
-      let site_is : word op.site ≡ op.site = omega arith in
-      record {
-        committing = h6;
-        runs = runs_join image cycle0 m.number c 2 m.hart h4 h6 runs (
-          h5,
-          private image cycle4 m.number k (Lui t1 (high_part op.site)) h4 h5 holds4 l4 e4 live (λ s. (s.reserved, refl)),
-          (h6, private image cycle5 m.number (suc k) (Addi t1 t1 (low_part op.site)) h5 h6 holds4 l5 e5 live (λ s. (s.reserved, refl)), refl),
-        );
-        commits = record {
-          live = live;
-          counted = ap (count_in image.commits.items) e6 ∙ l6.counted;
-          does = λ s. inr (record {
-            site = op.site;
-            part = fault_part core setting i op (Split by) s p place.stands refl no_room en.index;
-            stops = λ earlier sh shows.
-                step_at image (suc (suc k)) 1 (Sw device_register t1 8) l6 cycle6 (holds_in_cycles image (c + 2) cycle0 holds) m.number h6 sh e6
-                ∙ sw-fault cycle6 m.number 26 6 8 h6 sh (omega (arith, device)) (ap (λ a. place_of (word_sum a 8)) device ∙ place_of-fault)
-                ∙ ap (λ v. Stops (Faulted v m.number)) (number_of_parts op.site ∙ site_is);
-          });
-        };
-      }
-
   device_is : h1.registers device_register ≡ 0x30000000
   device_is = front.others 26 (λ e. omega arith) (λ e. omega arith) (λ e. omega arith) (λ e. omega arith) ∙ en.at.stands.devices
 
   -- ---- one part
 
-  lacks_one : parts_label by ≡ one_part_label → free space < 20 → Faulting (n + 3 + 2)
+  lacks_one : parts_label by ≡ one_part_label → free space < 20 → Faults (n + 3 + 2)
   lacks_one label few =
       let k = bound one_part_label in
       let holds = holds_in_cycles image n cycle0 en.running.code in
@@ -144,7 +155,7 @@ module _ (core : List CoreOp) (image : Image) (bound : ℕ → ℕ) (places : Pl
       let linked = front.link in
       let target : word_sum (h1.registers ra) 4 / 2 * 2 ≡ 4 * suc link = omega arith in
       let aligned : 4 * suc link % 4 ≡ 0 = omega arith in
-      faults_from (n + 3) h4
+      faults_from core image bound places nestings i op by place small setting space count full cycle0 m p en divides link front.back (n + 3) h4
       (runs_join image cycle0 m.number n 3 m.hart h1 h4 front.runs (
         h2,
         private image cycle1 m.number k (Addi t1 frames_register 80) h1 h2 holds l1 e1 front.live (λ s. (s.reserved, refl)),
@@ -158,7 +169,7 @@ module _ (core : List CoreOp) (image : Image) (bound : ℕ → ℕ) (places : Pl
 
   -- ---- two parts
 
-  lacks_two : parts_label by ≡ two_parts_label → free space < 40 → Faulting (n + 4 + 2)
+  lacks_two : parts_label by ≡ two_parts_label → free space < 40 → Faults (n + 4 + 2)
   lacks_two label few =
       let k = bound two_parts_label in
       let holds = holds_in_cycles image n cycle0 en.running.code in
@@ -192,7 +203,7 @@ module _ (core : List CoreOp) (image : Image) (bound : ℕ → ℕ) (places : Pl
       let linked = front.link in
       let target : word_sum (h1.registers ra) 4 / 2 * 2 ≡ 4 * suc link = omega arith in
       let aligned : 4 * suc link % 4 ≡ 0 = omega arith in
-      faults_from (n + 4) h5
+      faults_from core image bound places nestings i op by place small setting space count full cycle0 m p en divides link front.back (n + 4) h5
       (runs_join image cycle0 m.number n 4 m.hart h1 h5 front.runs (
         h2,
         private image cycle1 m.number k (Sub t0 blocks_register frames_register) h1 h2 holds l1 e1 front.live (λ s. (s.reserved, refl)),
@@ -208,36 +219,78 @@ module _ (core : List CoreOp) (image : Image) (bound : ℕ → ℕ) (places : Pl
       ))
       refl front.live device_is
 
+-- ---- a fork
+
+lacks_fork : (core : List CoreOp) (image : Image) (bound : ℕ → ℕ) (places : Places) (nestings : Nestings) (i : ℕ) (op : CoreOp)
+    (place : IsInPlace core image bound places nestings i op (Split Fork)) → HasParts image bound → op.site < 2 ^ 32
+    → (setting : Setting) (space : Space) (count : ℕ) → IsSpace space → has_parts space count ≡ false
+    → (t : MachineSetting) (first : ℕ) (m : Member) (p : Owner) → Enters core image places setting t i op (Split Fork) p m.hart
+    → IsMember places nestings setting None first m p → IsToDivide nestings Fork space count p
+    → OneDoes (core_source core setting) image t 1 (split_faults_in Fork) 0 m p (λ h d. ⊥)
+lacks_fork core image bound places nestings i op place shared small setting space count is_space full t first m p en member divides =
+    let front = forks.fork_fronted core image bound places nestings i op place setting t m p en in
+    let k = bound fork_label in
+    let k7 = suc (suc (suc (suc (suc (suc (suc k)))))) in
+    let link = forks.fork_link core image bound places nestings i op place setting t m p en in
+    let h7 = forks.roomed core image bound places nestings i op place setting t m p en shared space count is_space first member divides front in
+    let room = forks.room_runs core image bound places nestings i op place setting t m p en shared space count is_space first member divides front in
+    let few = full_of space count full in
+    let q = forks.quotient_is core image bound places nestings i op place setting t m p en shared space count is_space first member divides front in
+    let twenty = forks.twenty_is core image bound places nestings i op place setting t m p en shared space count is_space first member divides front in
+    let holds = holds_in_cycles image 12 t en.running.code in
+    let cycle12 = in_cycles 12 t in
+    let line = shared.fork.1.1.1.1.1.1.1.0 in
+    let jalr = shared.fork.1.1.1.1.1.1.1.1.0 in
+    let near = jalr.within in
+    let near' = front.back.1.0.within in
+    let there = room.1 in
+    let at : h7.pc ≡ 4 * k7 = there ∙ omega arith in
+    let h8 = goes_to_pc h7 (word_sum h7.pc 4) in
+    let e8 : h8.pc ≡ 4 * suc k7 = omega arith in
+    let h9 = jumps h8 0 (4 * suc link) in
+    let linked : h8.registers ra ≡ 4 * link = front.link in
+    let target : word_sum (h8.registers ra) 4 / 2 * 2 ≡ 4 * suc link = omega arith in
+    let aligned : 4 * suc link % 4 ≡ 0 = omega arith in
+    let device = front.others 26 (λ e. omega arith) (λ e. omega arith) (λ e. omega arith) (λ e. omega arith) (λ e. omega arith) ∙ en.at.stands.devices in
+    faults_from core image bound places nestings i op Fork place small setting space count full t m p en divides link front.back 14 h9
+    (runs_join image t m.number 12 2 m.hart h7 h9 room.0 (
+      h8,
+      bgeu_on image cycle12 m.number k7 5 6 8 h7 holds line at front.live (lt-leb (h7.registers t1) (h7.registers t0) (omega arith)),
+      (h9, private image (later cycle12) m.number (suc k7) (Jalr zero_register ra 4) h8 h9 holds jalr e8 front.live (λ s. (s.reserved, jalr_goes (later cycle12) m.number 0 1 4 (4 * suc link) h8 s target aligned)), refl),
+    ))
+    refl front.live device
+
 -- ---- by the kind of the split
 
 module _ (core : List CoreOp) (image : Image) (bound : ℕ → ℕ) (places : Places) (nestings : Nestings) (i : ℕ) (op : CoreOp) (setting : Setting) (space : Space) (count : ℕ)
     (shared : HasParts image bound) (small : op.site < 2 ^ 32) (is_space : IsSpace space) (full : has_parts space count ≡ false) (t : MachineSetting) (first : ℕ) where
-  lacks : (by : SplitKind) (place : IsInPlace core image bound places nestings i op (Split by)) → is_implicit by ≡ true → (m : Member) (p : Owner)
+  lacks : (by : SplitKind) (place : IsInPlace core image bound places nestings i op (Split by)) → (m : Member) (p : Owner)
       → Enters core image places setting t i op (Split by) p m.hart → IsMember places nestings setting None first m p → IsToDivide nestings by space count p
       → OneDoes (core_source core setting) image t 1 (split_faults_in by) 0 m p (λ h d. ⊥)
-  lacks IfAlone place is m p en member divides =
+  lacks IfAlone place m p en member divides =
       lacks_one core image bound places nestings i op IfAlone place shared small setting space count is_space full t first m p en member divides
       (fronted core image bound places nestings i op IfAlone place setting t m p en refl) refl (full_of_one space (ap (has_parts space) divides.count_is ∙ full))
-  lacks AndThen place is m p en member divides =
+  lacks AndThen place m p en member divides =
       lacks_one core image bound places nestings i op AndThen place shared small setting space count is_space full t first m p en member divides
       (fronted core image bound places nestings i op AndThen place setting t m p en refl) refl (full_of_one space (ap (has_parts space) divides.count_is ∙ full))
-  lacks OrElse place is m p en member divides =
+  lacks OrElse place m p en member divides =
       lacks_one core image bound places nestings i op OrElse place shared small setting space count is_space full t first m p en member divides
       (fronted core image bound places nestings i op OrElse place setting t m p en refl) refl (full_of_one space (ap (has_parts space) divides.count_is ∙ full))
-  lacks Loop place is m p en member divides =
+  lacks Loop place m p en member divides =
       lacks_one core image bound places nestings i op Loop place shared small setting space count is_space full t first m p en member divides
       (fronted core image bound places nestings i op Loop place setting t m p en refl) refl (full_of_one space (ap (has_parts space) divides.count_is ∙ full))
-  lacks IfElse place is m p en member divides =
+  lacks IfElse place m p en member divides =
       lacks_two core image bound places nestings i op IfElse place shared small setting space count is_space full t first m p en member divides
       (fronted core image bound places nestings i op IfElse place setting t m p en refl) refl (full_of_two space (ap (has_parts space) divides.count_is ∙ full))
-  lacks by place is m p en member divides = absurd (cc)
+  lacks Fork place m p en member divides =
+      lacks_fork core image bound places nestings i op place shared small setting space count is_space full t first m p en member divides
 
-  each_lacks : (by : SplitKind) (place : IsInPlace core image bound places nestings i op (Split by)) → is_implicit by ≡ true → (ms : List Member) (ps : List Owner)
+  each_lacks : (by : SplitKind) (place : IsInPlace core image bound places nestings i op (Split by)) → (ms : List Member) (ps : List Owner)
       → AllEnter core image places nestings i op (Split by) setting t None first ms ps → AllAreToDivide nestings by space count ps
       → EachDoes (core_source core setting) image t 1 (split_faults_in by) 0 (λ number p h d. ⊥) ms ps
-  each_lacks by place is [] [] all divide = tt
-  each_lacks by place is (m ∷ ms) (p ∷ ps) all divide = (lacks by place is m p all.0 all.1 divide.0, each_lacks by place is ms ps all.2 divide.1)
-  each_lacks by place is ms ps all divide = absurd (assumption all)
+  each_lacks by place [] [] all divide = tt
+  each_lacks by place (m ∷ ms) (p ∷ ps) all divide = (lacks by place m p all.0 all.1 divide.0, each_lacks by place ms ps all.2 divide.1)
+  each_lacks by place ms ps all divide = absurd (assumption all)
 
 -- what nobody reaches isn't reached
 reached_by_none : (p : Owner) (ps : List Owner) (ms : List Member) (ds : List Doing) → AllReach (λ (number : ℕ) (p : Owner) (h : Hart) (d : Doing). ⊥) (p ∷ ps) ms ds → ⊥
@@ -250,9 +303,9 @@ few_before IfElse = omega arith
 few_before AndThen = omega arith
 few_before OrElse = omega arith
 few_before Loop = omega arith
-few_before by = omega arith
+few_before Fork = omega arith
 
-module _ (core : List CoreOp) (image : Image) (bound : ℕ → ℕ) (places : Places) (nestings : Nestings) (i : ℕ) (op : CoreOp) (by : SplitKind) (is : is_implicit by ≡ true)
+module _ (core : List CoreOp) (image : Image) (bound : ℕ → ℕ) (places : Places) (nestings : Nestings) (i : ℕ) (op : CoreOp) (by : SplitKind)
     (split : IsSplitInPlace core image bound places nestings i op by) (small : op.site < 2 ^ 32) (setting : Setting) (t : MachineSetting) (mine : Words) (first : ℕ) (space : Space) (count : ℕ)
     (owns : OwnsHeader mine first) (is_space : IsSpace space) (full : has_parts space count ≡ false) where
   all_lack : (ms : List Member) (ps : List Owner) (own : Memory) → 1 ≤ length ps → AllEnter core image places nestings i op (Split by) setting t None first ms ps → AllAreToDivide nestings by space count ps
@@ -267,12 +320,12 @@ module _ (core : List CoreOp) (image : Image) (bound : ℕ → ℕ) (places : Pl
       together_map source image mine t 1 before ms (p ∷ ps) own Then (λ ms' ds own'. ⊥)
       (λ ms' ds own' x. reached_by_none p ps ms' ds x.1)
       (each_does source image mine t 1 before 0 None' ms (p ∷ ps) own owns.apart
-      (each_lacks core image bound places nestings i op setting space count split.parts small is_space full t first by split.place is ms (p ∷ ps) all divide))
+      (each_lacks core image bound places nestings i op setting space count split.parts small is_space full t first by split.place ms (p ∷ ps) all divide))
 
 pub groups_lack_room : GroupsLackRoom
-groups_lack_room core image bound places nestings i op by is split small = record {
+groups_lack_room core image bound places nestings i op by split small = record {
   before = split_faults_in by;
   few = few_before by;
   faults = λ setting t mine first space count ms ps own owns all divide full.
-      all_lack core image bound places nestings i op by is split small setting t mine first space count owns divide.is_space full ms ps own divide.some all divide.all;
+      all_lack core image bound places nestings i op by split small setting t mine first space count owns divide.is_space full ms ps own divide.some all divide.all;
 }

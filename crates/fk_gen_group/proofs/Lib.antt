@@ -34,9 +34,9 @@ pub mod Seqs
 pub mod Ends
 -- the levels that frames save
 pub mod Slots
--- the end of a part
+-- the end of a part of a `fork`
 pub mod ForkEnds
-
+-- the end of a part
 pub mod PartEnds
 -- what members give to words
 pub mod Shares
@@ -46,14 +46,18 @@ pub mod Counting
 pub mod Shrinks
 -- the lines of a split up to shared code
 pub mod Fronts
+-- what the control words of parts have behind a split
+pub mod PartSizes
+-- where the parts of a `fork` lie
+pub mod ForkSizes
+-- where members count themselves at a `fork`
+pub mod Forks
 -- a split without room
 pub mod Lacks
 -- where members count themselves at a split, and how they enter parts
 pub mod Parting
 -- all members count in lockstep
 pub mod Counted
--- what the control words of parts have behind a split
-pub mod PartSizes
 -- what a member has at its commit
 pub mod Committed
 -- all members that have counted
@@ -62,13 +66,11 @@ pub mod Divided
 pub mod OnePart
 -- a group that divides into two
 pub mod TwoParts
--- a group that divides
-pub mod ForkSizes
-
-pub mod Forks
-
+-- how members go on after a `fork`
 pub mod ForkWays
-
+-- a group that divides by a `fork`
+pub mod ForkDivides
+-- a group that divides
 pub mod Divides
 -- the size of the group of `start`
 pub mod Sizes

@@ -37,7 +37,7 @@ use Rattle.fk_gen.proofs.Walk.{LocalAt, private, told_of, can_run_goes}
 use Rattle.fk_gen.proofs.Jumps.{goes_to_pc, bne_taken, bne_on}
 use Rattle.fk_gen.proofs.Standing.{SameRegisters}
 use Rattle.fk_gen_group.specs.Splits.{shrink_goes_on}
-use Rattle.fk_gen_group.specs.Laws.{IsInPlace, PartsShrink}
+use Rattle.fk_gen_group.specs.Laws.{IsInPlace, PartsShrink, last_fork}
 use Rattle.fk_gen_group.proofs.Members.{Both, all_stand, at_block, all_due}
 use Rattle.fk_gen_group.proofs.Last.{value_word, is_value, is_last}
 use Rattle.fk_gen_group.proofs.Behind.{goes_behind_with}

@@ -147,9 +147,10 @@ module _ (core : List CoreOp) (image : Image) (bound : ℕ → ℕ) (places : Pl
         (subst (λ a. HasOuter places nestings setting.processors (number_of p) m.hart.local (a ∷ callers) p.runner.has.outer) en.index member.node.outer.0)) in
         let levels = opens.levels in
         let last : nestings.levels i - 1 ≡ nestings.levels op.target = omega arith in
-        let none : nestings.forks i (nestings.levels op.target) ≡ None = ap (nestings.forks i) (sym last) ∙ plain in
-        (subst (λ f. HasLevelBy f m.hart.local (frames_word (length callers)) (saved_at places nestings (length callers) i + 4 * nestings.levels op.target) (nestings.levels op.target) part.around (part.beyond ∷ part.further)) none told.0,
-        told.1)
+        let none : nestings.forks i (nestings.levels op.target) ≡ None = ap (nestings.forks i) (sym last) ∙ plain in (
+          subst (λ f. HasLevelBy f m.hart.local (frames_word (length callers)) (saved_at places nestings (length callers) i + 4 * nestings.levels op.target) (nestings.levels op.target) part.around (part.beyond ∷ part.further)) none told.0,
+          told.1,
+        )
 
     -- `@` and `$` are those of the group around
     numbers : (part.around.number ≡ p.runner.has.level.number) × (part.around.rank ≡ p.runner.has.level.rank)

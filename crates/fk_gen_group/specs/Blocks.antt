@@ -6,6 +6,7 @@ use Rattle.fk_meaning_operation.specs.declared.operation.Operation.TheVariants.{
 use Rattle.fk_meaning_operation.specs.declared.operation.Operation.TheVariants.{Seq, End, Resume}
 use Rattle.fk_meaning_operation.specs.declared.operation.Operation.TheVariants.{Meet, Frame, Block}
 use Rattle.fk_meaning_operation.specs.declared.operation.Operation.TheVariants.{Split, Shrink}
+use Rattle.fk_meaning.specs.Group.{taken_by}
 use Rattle.fk_core.specs.Numbers.{operation_of}
 use Rattle.fk_image.specs.declared.Image.{Image}
 use Rattle.fk_isa.specs.declared.instruction.Instruction.{Instruction}
@@ -240,6 +241,11 @@ abbrev pub HasFewWords : Option ℕ → Type 0
 HasFewWords None = Unit {0}
 HasFewWords (Some words) = words < 2 ^ 21
 
+-- The values that a split takes are there.
+abbrev pub HasSplitValues : Option Operation → (depth : ℕ) → Type 0
+HasSplitValues (Some (Split by)) depth = taken_by by ≤ depth
+HasSplitValues operation depth = Unit {0}
+
 -- The frame has room for the levels, and for one more where a split saves it. Only a part of a loop
 -- shrinks.
 abbrev pub HasLevelWords : Option Operation → Levels → Type 0
@@ -257,4 +263,5 @@ pub record HasGroupStep (placed : Placed) : Type 0 where
   pub depth : placed.op.depth ≤ 56
   pub target : placed.op.target < 2 ^ 31
   pub words : HasWords (operation_of placed.op.kind placed.op.number)
+  pub values : HasSplitValues (operation_of placed.op.kind placed.op.number) placed.op.depth
   pub levels : HasLevelWords (operation_of placed.op.kind placed.op.number) placed.levels

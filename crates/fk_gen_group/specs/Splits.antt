@@ -215,12 +215,17 @@ last_level levels = level_word levels (levels.count - 1)
 -- The group around a part of a `fork`: its size and `@`, its node, its blocks, `$`, and where its
 -- frames end. That is in the header at the first level of a call. Else the frame of the group has so
 -- many words.
-abbrev pub header_frames : List Instruction
-header_frames = Lw frames_register end_register (at_value 60) ∷ []
+abbrev pub header_frames : List MarkedLine
+header_frames = quiet (Lw frames_register end_register (at_value 60)) ∷ []
 
-abbrev pub frames_end : (count words : ℕ) → List Instruction
-frames_end count words = if count == 1 then header_frames
-    else add_number (32 + 4 * words) node_register ++ Addi frames_register t0 0 ∷ []
+abbrev pub found_line : List MarkedLine
+found_line = quiet (Addi frames_register t0 0) ∷ []
+
+abbrev pub frames_sum : (words : ℕ) → List MarkedLine
+frames_sum words = map quiet (add_number (32 + 4 * words) node_register) ++ found_line
+
+abbrev pub frames_end : (count words : ℕ) → List MarkedLine
+frames_end count words = if count == 1 then header_frames else frames_sum words
 
 abbrev pub forked_front : (word : ℕ) → List MarkedLine
 forked_front word =
@@ -231,10 +236,12 @@ forked_front word =
     quiet (Lw blocks_register frame_register (at_private (word + 2)))
     ∷ quiet (Lw rank_register frame_register (at_private (word + 3))) ∷ []
 
+abbrev pub away_line : (target : ℕ) → List MarkedLine
+away_line target = goes_to (Jal zero_register 0) (label_of target) ∷ []
+
 abbrev pub out_of_fork : (word count words target : ℕ) → List MarkedLine
 out_of_fork word count words target =
-    forked_front word ++ (map quiet (frames_end count words)
-    ++ goes_to (Jal zero_register 0) (label_of target) ∷ [])
+    forked_front word ++ (frames_end count words ++ away_line target)
 
 -- By how the group around the part was left.
 abbrev pub end_part_by : Option ℕ → Levels → (target : ℕ) → List MarkedLine

@@ -6,6 +6,7 @@ ghost use Rattle.fk_asm.specs.Block.{GoesToMade, HasBegun, with_block};
 ghost use Rattle.fk_gen_group.specs.Blocks.{meet_block, begin_block, agree_block, farm_block};
 ghost use Rattle.fk_gen_group.specs.Blocks.{seq_block, end_block, frame_block, frame_lines};
 ghost use Rattle.fk_gen_group.specs.Blocks.{first_taking, second_taking, shalloc_block, end_by};
+ghost use Rattle.fk_gen_group.specs.Blocks.{HasFewWords};
 ghost use Rattle.fk_isa.specs.Fits.{Fits};
 
 use crate::splits::{end_part, shrink, split};
@@ -180,6 +181,7 @@ fn seq(into: &mut Assembler, target: u32) -> Result<(), AllocError>
 fn end_group(into: &mut Assembler, levels: Levels, target: u32) -> Result<(), AllocError>
     requires near { target < 2 ^ 31 }
     requires levels { levels.behind + 4 * levels.count ≤ 57 }
+    requires words { HasFewWords levels.fork }
     requires labels { All (GoesToMade into.old.bound) (end_by levels target) }
     requires room { length into.old.lines + length (end_by levels target) < 2 ^ 30 }
     requires free { AreFollowed into.old }

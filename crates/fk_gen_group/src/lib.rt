@@ -8,6 +8,7 @@ mod splits;
 mod start;
 
 pub use blocks::GroupBlocks;
-pub use parts::{FORK_LABEL, ONE_PART_LABEL, TWO_PARTS_LABEL};
-pub use parts::{emit_fork, emit_one_part, emit_two_parts};
+pub use parts::{
+    FORK_LABEL, ONE_PART_LABEL, TWO_PARTS_LABEL, emit_fork, emit_one_part, emit_two_parts,
+};
 pub use start::{START_LABEL, emit_start};

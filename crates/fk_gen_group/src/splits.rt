@@ -287,12 +287,21 @@ fn emit_out_of_fork(
 {
     emit_forked(into, word)?;
     emit_frames_end(into, count, words)?;
+    emit_away(into, target)
+}
+
+// The way to where those wait who are around the part.
+fn emit_away(into: &mut Assembler, target: u32) -> Result<(), AllocError>
+    requires near { target < 2 ^ 31 }
+    requires labels { All (GoesToMade into.old.bound) (s.away_line target) }
+    requires room { length into.old.lines + 1 < 2 ^ 30 }
+    requires free { AreFollowed into.old }
+    ensures added { OnOk result (into.new ≡ with_block into.old (s.away_line target)) }
+    ensures begun { OnErr result (HasBegun (s.away_line target) into.old into.new) }
+{
     emit_lines(
         into,
-        &[BlockLine::goes_to(
-            Instruction::Jal(ZERO, 0),
-            FIRST_LABEL + target,
-        )],
+        &[BlockLine::goes_to(Instruction::Jal(ZERO, 0), FIRST_LABEL + target)],
     )
 }
 
@@ -324,25 +333,49 @@ fn emit_frames_end(into: &mut Assembler, count: u32, words: u32) -> Result<(), A
     requires room { length into.old.lines + length (s.frames_end count words) < 2 ^ 30 }
     requires free { AreFollowed into.old }
     ensures added { OnOk result
-        (into.new ≡ with_block into.old (map quiet (s.frames_end count words))) }
+        (into.new ≡ with_block into.old (s.frames_end count words)) }
     ensures begun { OnErr result
-        (HasBegun (map quiet (s.frames_end count words)) into.old into.new) }
+        (HasBegun (s.frames_end count words) into.old into.new) }
 {
     if count == 1 {
-        return emit_header_frames(into);
+        emit_header_frames(into)
+    } else {
+        emit_frames_sum(into, words)
     }
+}
+
+fn emit_frames_sum(into: &mut Assembler, words: u32) -> Result<(), AllocError>
+    requires few { words < 2 ^ 21 }
+    requires room { length into.old.lines + length (s.frames_sum words) < 2 ^ 30 }
+    requires free { AreFollowed into.old }
+    ensures added { OnOk result (into.new ≡ with_block into.old (s.frames_sum words)) }
+    ensures begun { OnErr result (HasBegun (s.frames_sum words) into.old into.new) }
+{
     emit_sum(into, 32 + 4 * words, NODE)?;
+    emit_found(into)
+}
+
+// The frames end where the sum in `t0` tells.
+fn emit_found(into: &mut Assembler) -> Result<(), AllocError>
+    requires room { length into.old.lines + 1 < 2 ^ 30 }
+    requires free { AreFollowed into.old }
+    ensures added { OnOk result (into.new ≡ with_block into.old s.found_line) }
+    ensures begun { OnErr result (HasBegun s.found_line into.old into.new) }
+{
     emit_lines(into, &[BlockLine::quiet(Instruction::Addi(FRAMES, T0, 0))])
 }
 
 fn emit_header_frames(into: &mut Assembler) -> Result<(), AllocError>
     requires room { length into.old.lines + 1 < 2 ^ 30 }
     requires free { AreFollowed into.old }
-    ensures added { OnOk result (into.new ≡ with_block into.old (map quiet s.header_frames)) }
-    ensures begun { OnErr result (HasBegun (map quiet s.header_frames) into.old into.new) }
+    ensures added { OnOk result (into.new ≡ with_block into.old s.header_frames) }
+    ensures begun { OnErr result (HasBegun s.header_frames into.old into.new) }
 {
     let place = at_value(FRAMES_PLACE);
-    emit_lines(into, &[BlockLine::quiet(Instruction::Lw(FRAMES, END, place))])
+    emit_lines(
+        into,
+        &[BlockLine::quiet(Instruction::Lw(FRAMES, END, place))],
+    )
 }
 
 // A line that may do the operation.

@@ -25,7 +25,7 @@ use Rattle.fk_gen_list.specs.Generable.{IsGenerable, DoesTheList, GivesWholeCode
 use Rattle.fk_gen_list.specs.Kinds.{HasBlockOf, block_of}
 use Rattle.fk_gen_list.specs.Layout.{placed, all_placed, front, place, all_lines, IsLaid}
 use Rattle.fk_gen_list.proofs.InImage.{IsAssembled, bound_in}
-use Rattle.fk_gen_list.proofs.Laid.{places, has_labels, has_opening, has_shared, has_start, has_heap, has_one_part, has_two_parts, has_block}
+use Rattle.fk_gen_list.proofs.Laid.{places, has_labels, has_opening, has_shared, has_start, has_heap, has_one_part, has_two_parts, has_fork, has_block}
 use Rattle.fk_gen_list.proofs.AllPlaced.{placed_get, all_from}
 use Rattle.fk_gen_list.proofs.Clears.{few_clears}
 use Rattle.fk_gen_list.proofs.Whole.{assembled}
@@ -66,6 +66,7 @@ module _ (core : List CoreOp) (kept : List Set) (saved : List Levels) (main : �
       (has_operands core is.frames i here.back op operation stands fits is.blocks short (omega (arith, back))) (omega arith)
       (λ step. let there : op.target < length core = is.blocks.targets i op operation stands (step_has_target operation step) in omega arith)
       (is.levels i op operation stands)
+      (is.values i op operation stands)
       (is.blocks.operations i op operation stands)
 
   has_by : length core < 2 ^ 31 → (i : ℕ) (op : CoreOp) → slice_get core i ≡ Some op → (jump : Bool) → is_jump op ≡ jump → HasBlockOf (placed core globals kept saved i op)
@@ -125,6 +126,7 @@ module _ (core : List CoreOp) (kept : List Set) (saved : List Levels) (main : �
               parts = record {
                 one = has_one_part block_of opening globals ops a laid image built;
                 two = has_two_parts block_of opening globals ops a laid image built;
+                fork = has_fork block_of opening globals ops a laid image built;
               };
             },
           ),

@@ -9,7 +9,7 @@ use Rattle.fk_core.specs.Next.{is_jump, behind_jump}
 use Rattle.fk_core.specs.Numbers.{operation_of}
 use Rattle.fk_sim_block.specs.Stands.{Frames, HasRoom}
 use Rattle.fk_sim_block.specs.Suits.{Flows, Fits, Suits}
-use Rattle.fk_gen_group.specs.Blocks.{is_group_step, HasLevelWords}
+use Rattle.fk_gen_group.specs.Blocks.{is_group_step, HasLevelWords, HasSplitValues}
 use Rattle.fk_sim_block.specs.Lockstep.{values_of_step}
 use Rattle.fk_gen_list.specs.Generable.{HasOwnBlock, HasBlocks, has_target, IsGenerable}
 use Rattle.fk_gen_list.specs.Laws.{StepsHaveValues}
@@ -130,8 +130,11 @@ is_generable = record {
   keeps = λ index word keeps. absurd (cc);
   of_file = refl;
   levels = λ i op operation stands.
-      each (λ i op operation. HasLevelWords (Some operation) (record { count = 0; behind = 0; nest = 0 }))
+      each (λ i op operation. HasLevelWords (Some operation) (record { count = 0; behind = 0; nest = 0; fork = None }))
       (omega arith) (omega arith) (omega arith) (omega arith) (omega arith)
+      i op operation stands.stands stands.is_read;
+  values = λ i op operation stands.
+      each (λ i op operation. HasSplitValues (Some operation) op.depth) tt tt tt tt tt
       i op operation stands.stands stands.is_read;
   words = All-from_recursion (λ (op : CoreOp). (op.site < 2 ^ 32) × (op.number < 2 ^ 32)) core
       ((omega arith, omega arith), ((omega arith, omega arith), ((omega arith, omega arith), ((omega arith, omega arith), ((omega arith, omega arith), tt)))));

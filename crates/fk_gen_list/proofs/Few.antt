@@ -1,8 +1,9 @@
 -- How many cycles the blocks of a list take at most.
-use Rattle.std.proofs.Common.{◌≡◌, ℕ, suc, ◌+◌, ◌*◌, ◌^◌, ◌<◌, ◌≤◌, List, [], ◌∷◌, length, Bool, true, false, Option, Some, None, sym, subst, arith, refl}
+use Rattle.std.proofs.Common.{◌≡◌, ℕ, suc, ◌+◌, ◌*◌, ◌^◌, ◌<◌, ◌≤◌, List, [], ◌∷◌, length, map, length-append, Bool, true, false, Option, Some, None, sym, subst, arith, refl}
 use Rattle.std.specs.Prelude.{◌==◌, slice_get, if◌then◌else◌}
 use Rattle.std.specs.Option.{option_map_or}
 use Rattle.std.proofs.lemmas.Bool.{eqb-true}
+use Rattle.std.proofs.lemmas.List.{length-map}
 use Rattle.fk_meaning_operation.specs.declared.operation.Operation.{Operation}
 use Rattle.fk_meaning_operation.specs.declared.operation.Operation.TheVariants.{Push, Get, Set, DropLast, CopyLast, Apply, Binary, Index, Branch, Leave, Check, Enter, Begin, Frame, Split, Shrink, End}
 use Rattle.fk_meaning_operation.specs.declared.operation.SplitKind.{SplitKind}
@@ -18,7 +19,7 @@ use Rattle.fk_sim_block.specs.Block.{most_before, most_behind}
 use Rattle.fk_core_liveness.specs.declared.set.Set as sets
 use Rattle.fk_gen.specs.declared.placed.Levels.{Levels}
 use Rattle.fk_gen.specs.declared.placed.Placed.{Placed}
-use Rattle.fk_gen.specs.Lines.{high_part, load_by, add_by}
+use Rattle.fk_gen.specs.Lines.{quiet, high_part, load_by, add_by, add_number}
 use Rattle.fk_gen.specs.Keeps.{past_first}
 use Rattle.fk_asm.specs.Block.{MarkedLine}
 use Rattle.fk_gen_expr.specs.Expressions.{IsExpression, expression_block}
@@ -27,7 +28,7 @@ use Rattle.fk_gen_access.specs.Blocks.{is_access}
 use Rattle.fk_gen_flow.specs.Blocks.{is_flow}
 use Rattle.fk_gen_flow.specs.Calls.{most_privates}
 use Rattle.fk_gen_flow.proofs.Enters.{few_take}
-use Rattle.fk_gen_group.specs.Splits.{split_goes_on}
+use Rattle.fk_gen_group.specs.Splits.{split_goes_on, end_part_takes, header_frames, found_line, frames_sum}
 use Rattle.fk_gen_list.specs.Layout.{placed}
 use Rattle.fk_gen_list.proofs.Clears.{few_clears}
 use Rattle.fk_gen_list.proofs.Suited.{no_node_words, has_expression}
@@ -72,18 +73,39 @@ past_short (l ∷ ls) short = let few = short.few in omega arith
 few_expression : (globals : ℕ) (levels other : Levels) (depth : ℕ) (operation : Operation) → IsExpression globals other depth operation → past_first (expression_block globals levels depth operation) ≤ most_behind
 few_expression globals levels other depth operation is = past_short (expression_block globals levels depth operation) (block_short globals levels other depth operation is)
 
-few_parts : (by : SplitKind) (onward : Bool) → split_goes_on by onward ≤ most_behind
-few_parts IfElse true = omega arith
-few_parts IfElse false = omega arith
-few_parts by true = omega arith
-few_parts by false = omega arith
+few_parts : (by : SplitKind) (levels : ℕ) (onward : Bool) → split_goes_on by levels onward ≤ most_behind
+few_parts IfElse levels true = omega arith
+few_parts IfElse levels false = omega arith
+few_parts Fork levels true = by (levels == 0)
+  where
+    by : (first : Bool) → (if first then 16 else 15) ≤ most_behind
+    by true = omega arith
+    by false = omega arith
+few_parts by levels true = omega arith
+few_parts by levels false = omega arith
+
+few_at_end : (fork : Option ℕ) (levels : ℕ) → end_part_takes fork levels ≤ most_behind
+few_at_end None levels = omega arith
+few_at_end (Some words) levels = by (levels == 1)
+  where
+    few_sum : (short : Bool) → length (add_by short (32 + 4 * words) 10) ≤ 3
+    few_sum true = omega arith
+    few_sum false = omega arith
+
+    by : (first : Bool) → 6 + length (if first then header_frames else frames_sum words) ≤ most_behind
+    by true = omega arith
+    by false =
+        let both = length-append (map quiet (add_number (32 + 4 * words) 10)) found_line in
+        let same = length-map (add_number (32 + 4 * words) 10) quiet in
+        let sum = few_sum (high_part (32 + 4 * words) == 0) in
+        omega arith
 
 module _ (core : List CoreOp) (frames : Frames) (i : ℕ) (here : Placed) (few : frames.of_file ≤ 56) (number : here.op.number < 2 ^ 32) (some : here.globals ≤ 2 ^ 20)
     (cleared : here.clears ≤ most_privates) where
   of_expression : (operation : Operation) → operation_of here.op.kind here.op.number ≡ Some operation → Fits core frames i here.op operation → is_alone operation ≡ true
       → is_flow operation ≡ false → is_access (Some operation) ≡ false → past_first (expression_block here.globals here.levels here.op.depth operation) ≤ most_behind
   of_expression operation read fits alone f a =
-      let none : Levels = record { count = 0; behind = 0; nest = 0 } in
+      let none : Levels = record { count = 0; behind = 0; nest = 0; fork = None } in
       few_expression here.globals here.levels none here.op.depth operation
       (has_expression core frames i here.globals none here.op operation read fits few number some (no_node_words operation) alone f a)
 
@@ -108,10 +130,10 @@ module _ (core : List CoreOp) (frames : Frames) (i : ℕ) (here : Placed) (few :
   few_behind_of Begin false read fits = omega arith
   few_behind_of End onward read fits = few_end (here.levels.count == 0)
     where
-      few_end : (start : Bool) → (if start then 6 else 4) ≤ most_behind
+      few_end : (start : Bool) → (if start then 6 else end_part_takes here.levels.fork here.levels.count) ≤ most_behind
       few_end true = omega arith
-      few_end false = omega arith
-  few_behind_of (Split by) onward read fits = few_parts by onward
+      few_end false = few_at_end here.levels.fork here.levels.count
+  few_behind_of (Split by) onward read fits = few_parts by here.levels.count onward
   few_behind_of Shrink true read fits = omega arith
   few_behind_of Shrink false read fits = omega arith
   few_behind_of operation onward read fits = omega arith

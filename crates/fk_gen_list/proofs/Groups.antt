@@ -20,11 +20,11 @@ use Rattle.fk_sim_block.specs.Lockstep.{StepTogether, PartTogether, EndTogether}
 use Rattle.fk_sim_block.specs.Joint.{most_to_meet, is_meeting, BlockMeets}
 use Rattle.fk_sim_block.specs.Start.{most_united, most_to_start, BlockStarts}
 use Rattle.fk_sim_block.specs.Law.{IsAskedOf, sets_apart, stays_in_step, runs_behind}
-use Rattle.fk_sim_block.specs.Parts.{is_implicit, DividesTogether, FaultsTogether, ShrinksTogether, EndsPart}
+use Rattle.fk_sim_block.specs.Parts.{DividesTogether, FaultsTogether, ShrinksTogether, EndsPart}
 use Rattle.fk_gen_group.specs.Blocks.{is_group_step, block_by, frame_takes}
-use Rattle.fk_gen_group.specs.Splits.{split_takes, shrink_takes}
+use Rattle.fk_gen_group.specs.Splits.{split_takes, shrink_takes, end_part_takes, split_goes_on}
 use Rattle.fk_gen_group.specs.Start.{gathered_at, who_comes, gathering_of}
-use Rattle.fk_gen_group.specs.Laws.{IsInPlace, IsSplitInPlace, levels_at}
+use Rattle.fk_gen_group.specs.Laws.{IsInPlace, IsSplitInPlace, levels_at, last_fork}
 use Rattle.fk_gen_group.proofs.Agree.{groups_agree}
 use Rattle.fk_gen_group.proofs.Frames.{groups_take_frames}
 use Rattle.fk_gen_group.proofs.Shallocs.{groups_take_blocks}
@@ -124,7 +124,7 @@ module _ (core : List CoreOp) (image : Image) (bound : ℕ → ℕ) (places : Pl
   parts i op operation lowest size stands e = absurd (cc)
 
   -- the cycles of an end
-  behind_end : (i : ℕ) (op : CoreOp) → OpAt core i op End → behind i ≡ (λ onward. if nestings.levels i == 0 then 6 else 4)
+  behind_end : (i : ℕ) (op : CoreOp) → OpAt core i op End → behind i ≡ (λ onward. if nestings.levels i == 0 then 6 else end_part_takes (last_fork nestings i) (nestings.levels i))
   behind_end i op stands = behind_is core globals kept saved i op End stands ∙ ap (λ l. λ (onward : Bool). end_takes l) (told i)
 
   no_level : {A : Type 0} (i j : ℕ) → (nestings.levels i == 0) ≡ false → nestings.levels j ≡ 0 → j ≡ i → A
@@ -140,7 +140,7 @@ module _ (core : List CoreOp) (image : Image) (bound : ℕ → ℕ) (places : Pl
       absurd (omega arith)
 
   end_by : (i : ℕ) (op : CoreOp) (lowest size : ℕ) → OpAt core i op End → (start : Bool) → (nestings.levels i == 0) ≡ start
-      → EndTogether core image places nestings i op (if start then 6 else 4) lowest size
+      → EndTogether core image places nestings i op (if start then 6 else end_part_takes (last_fork nestings i) (nestings.levels i)) lowest size
   end_by i op lowest size stands true e setting t mine first ms ps own owns all inside =
       groups_end core image bound places nestings i op lowest size (in_place i op End stands refl) (levels.ends i op stands).start setting t mine first ms ps own owns all inside
   end_by i op lowest size stands false e setting t mine first [] [] own owns all inside = record { counted = tt; chain = (refl, (tt, refl)) }
@@ -153,7 +153,7 @@ module _ (core : List CoreOp) (image : Image) (bound : ℕ → ℕ) (places : Pl
       (end_by i op lowest size stands (nestings.levels i == 0) refl)
 
   part_by : (i : ℕ) (op : CoreOp) → OpAt core i op End → (start : Bool) → (nestings.levels i == 0) ≡ start
-      → EndsPart core image places nestings i op (λ onward. if start then 6 else 4)
+      → EndsPart core image places nestings i op (λ onward. if start then 6 else end_part_takes (last_fork nestings i) (nestings.levels i))
   part_by i op stands false e setting t mine first ms ps own owns all inside =
       parts_end core image bound places nestings i op (in_place i op End stands refl) (levels.ends i op stands).part setting t mine first ms ps own owns all inside
   part_by i op stands true e setting t mine first [] [] own owns all inside = record { counted = tt; chain = (refl, tt, refl) }
@@ -167,29 +167,25 @@ module _ (core : List CoreOp) (image : Image) (bound : ℕ → ℕ) (places : Pl
   shrinks i op stands =
       subst (λ c. ShrinksTogether core image places nestings i op c (behind i)) (sym (before_is core globals kept saved i op Shrink stands))
       (subst (λ f. ShrinksTogether core image places nestings i op shrink_takes f) (sym (behind_is core globals kept saved i op Shrink stands))
-      (parts_shrink core image bound places nestings i op (in_place i op Shrink stands refl) (levels.shrinks i op stands)))
+      (parts_shrink core image bound places nestings i op (in_place i op Shrink stands refl) (levels.shrinks i op stands).0 (levels.shrinks i op stands).1))
 
-  split_step : (by : SplitKind) → is_implicit by ≡ true → is_group_step (Some (Split by)) ≡ true
-  split_step IfAlone is = refl
-  split_step IfElse is = refl
-  split_step AndThen is = refl
-  split_step OrElse is = refl
-  split_step Loop is = refl
-  split_step by is = absurd (cc)
-
-  split_in_place : (i : ℕ) (op : CoreOp) (by : SplitKind) → OpAt core i op (Split by) → is_implicit by ≡ true → IsSplitInPlace core image bound places nestings i op by
-  split_in_place i op by stands is =
+  split_in_place : (i : ℕ) (op : CoreOp) (by : SplitKind) → OpAt core i op (Split by) → IsSplitInPlace core image bound places nestings i op by
+  split_in_place i op by stands =
       let opens = levels.opens i op by stands in
-      record { place = in_place i op (Split by) stands (split_step by is); parts = code.parts; room = opens.room; aside = opens.aside }
+      record { place = in_place i op (Split by) stands refl; parts = code.parts; room = opens.room; aside = opens.aside }
 
-  divides : (i : ℕ) (op : CoreOp) (by : SplitKind) → OpAt core i op (Split by) → is_implicit by ≡ true → DividesTogether core image places nestings i op by (before i) (behind i)
-  divides i op by stands is =
+  -- the cycles of a split
+  behind_split : (i : ℕ) (op : CoreOp) (by : SplitKind) → OpAt core i op (Split by) → behind i ≡ split_goes_on by (nestings.levels i)
+  behind_split i op by stands = behind_is core globals kept saved i op (Split by) stands ∙ ap (λ (l : Levels). split_goes_on by l.count) (told i)
+
+  divides : (i : ℕ) (op : CoreOp) (by : SplitKind) → OpAt core i op (Split by) → DividesTogether core image places nestings i op by (before i) (behind i)
+  divides i op by stands =
       subst (λ c. DividesTogether core image places nestings i op by c (behind i)) (sym (before_is core globals kept saved i op (Split by) stands))
-      (subst (λ f. DividesTogether core image places nestings i op by (split_takes by) f) (sym (behind_is core globals kept saved i op (Split by) stands))
-      (groups_divide core image bound places nestings i op by is (split_in_place i op by stands is)))
+      (subst (λ f. DividesTogether core image places nestings i op by (split_takes by) f) (sym (behind_split i op by stands))
+      (groups_divide core image bound places nestings i op by (split_in_place i op by stands)))
 
-  lacks : (i : ℕ) (op : CoreOp) (by : SplitKind) → OpAt core i op (Split by) → is_implicit by ≡ true → FaultsTogether core image places nestings i op by
-  lacks i op by stands is = groups_lack_room core image bound places nestings i op by is (split_in_place i op by stands is) (ranges.words i op stands.stands).0
+  lacks : (i : ℕ) (op : CoreOp) (by : SplitKind) → OpAt core i op (Split by) → FaultsTogether core image places nestings i op by
+  lacks i op by stands = groups_lack_room core image bound places nestings i op by (split_in_place i op by stands) (ranges.words i op stands.stands).0
 
   meets : (i : ℕ) (op : CoreOp) (operation : Operation) → OpAt core i op operation → is_meeting operation ≡ true → BlockMeets core image places nestings i op operation most_to_meet
   meets i op operation stands meeting setting t mine runs first n m p owns en member many =

@@ -15,8 +15,8 @@ use Rattle.fk_gen.specs.InPlace.{LinesAt, HasLabels, HasBlock}
 use Rattle.fk_gen_access.specs.Heap.{heap_label, heap_lines}
 use Rattle.fk_gen_flow.specs.Calls.{chain_lines, copy_lines, clear_lines, back_lines, most_privates, HasChain, HasShared}
 use Rattle.fk_gen_group.specs.Blocks.{start_label, start_lines}
-use Rattle.fk_gen_group.specs.Splits.{one_part_label, two_parts_label, one_part_lines, two_parts_lines}
-use Rattle.fk_gen_list.specs.Layout.{place, copy_offset, clear_offset, copying_lines, clearing_lines, calls_front, start_front, heap_front, part_front, front, all_lines, AddsBlocks, AddsCopying, AddsClearing, AddsLabelled, AddsStart, AddsHeap, AddsOnePart, AddsTwoParts, IsSpare, IsLaid}
+use Rattle.fk_gen_group.specs.Splits.{one_part_label, two_parts_label, fork_label, one_part_lines, two_parts_lines, fork_lines}
+use Rattle.fk_gen_list.specs.Layout.{place, copy_offset, clear_offset, copying_lines, clearing_lines, calls_front, start_front, heap_front, part_front, fork_front, front, all_lines, AddsBlocks, AddsCopying, AddsClearing, AddsLabelled, AddsStart, AddsHeap, AddsOnePart, AddsTwoParts, AddsFork, IsSpare, IsLaid}
 use Rattle.fk_gen_list.proofs.Blocks.{length-with_block}
 use Rattle.fk_gen_list.proofs.Chain.{IsChain, copying_chain, clearing_chain, length-chain, part_within, back_within}
 use Rattle.fk_gen_list.proofs.InImage.{Within, within_self, within_front, within_back, IsAssembled, bound_in, word_or, lines_at}
@@ -25,7 +25,7 @@ use Rattle.fk_gen_list.proofs.Near.{IsFar, GoesFar}
 -- The labels of so many operations. Behind those that copy arguments are those of the code that beginnings of `start`, blocks of `shmalloc` and splits share
 abbrev pub IsLabel : (operations label : ℕ) → Type 0
 IsLabel n label =
-    (label ≤ two_parts_label)
+    (label ≤ fork_label)
     ⊎ (((clear_label 0 ≤ label) × (label ≤ clear_label most_privates)) ⊎ ((label_of 0 ≤ label) × (label < label_of n)))
 
 -- a line goes to none, or far, to one of them
@@ -91,6 +91,9 @@ length-one = refl
 
 pub length-two : length two_parts_lines ≡ 27
 length-two = refl
+
+pub length-fork : length fork_lines ≡ 40
+length-fork = refl
 
 -- a chain stands in an image where it stands among its lines
 stands_chain : (label offset : ℕ → ℕ) (part : ℕ → List MarkedLine) (width : ℕ) → IsChain label offset part width
@@ -175,21 +178,31 @@ module _ (block : Placed → List MarkedLine) (opening : List MarkedLine) (globa
       let one = length-one in
       omega (arith, sum, first, one)
 
-  pub length-front : length (front opening globals) ≡ length opening + 286
-  length-front =
+  length-halved : length (fork_front opening globals) ≡ length opening + 286
+  length-halved =
       let sum = length-append (part_front opening globals) two_parts_lines in
       let first = length-parted in
       let two = length-two in
       omega (arith, sum, first, two)
+
+  pub length-front : length (front opening globals) ≡ length opening + 326
+  length-front =
+      let sum = length-append (fork_front opening globals) fork_lines in
+      let first = length-halved in
+      let fork = length-fork in
+      omega (arith, sum, first, fork)
 
   length-all : length (all_lines block opening globals ops) ≡ length (front opening globals) + length (flat_map block ops)
   length-all = length-append (front opening globals) (flat_map block ops)
 
   -- ---- it is laid part by part
 
-  -- what is added behind the code of one part, of `shmalloc`, of `start`, and of calls, with the labels of the end
+  -- what is added behind the code of two parts, of one, of `shmalloc`, of `start`, and of calls, with the labels of the end
+  abbrev behind_parts : (bound : List (Option ℕ)) → Assembly → Assembly
+  behind_parts bound a = record (with_block (with_block a fork_lines) (flat_map block ops)) { bound = bound }
+
   abbrev behind_part : (bound : List (Option ℕ)) → Assembly → Assembly
-  behind_part bound a = record (with_block (with_block a two_parts_lines) (flat_map block ops)) { bound = bound }
+  behind_part bound a = behind_parts bound (with_block a two_parts_lines)
 
   abbrev behind_heap : (bound : List (Option ℕ)) → Assembly → Assembly
   behind_heap bound a = behind_part bound (with_block a one_part_lines)
@@ -200,13 +213,14 @@ module _ (block : Placed → List MarkedLine) (opening : List MarkedLine) (globa
   abbrev behind_calls : (bound : List (Option ℕ)) → Assembly → Assembly
   behind_calls bound a = behind_start bound (with_block a (start_lines globals))
 
-  laid_made : (bound : List (Option ℕ)) (opened copied cleared started hiring parting halving laid : Assembly)
+  laid_made : (bound : List (Option ℕ)) (opened copied cleared started hiring parting halving forking laid : Assembly)
       → opened ≡ with_block (record empty { bound = bound }) opening → AddsCopying opened copied → AddsClearing copied cleared → AddsStart globals cleared started
-      → AddsHeap globals started hiring → AddsOnePart hiring parting → AddsTwoParts parting halving
-      → AddsBlocks block ops halving laid → laid ≡ record (with_block empty (all_lines block opening globals ops)) { bound = laid.bound }
-  laid_made bound opened copied cleared started hiring parting halving laid o c d s r q u b =
+      → AddsHeap globals started hiring → AddsOnePart hiring parting → AddsTwoParts parting halving → AddsFork halving forking
+      → AddsBlocks block ops forking laid → laid ≡ record (with_block empty (all_lines block opening globals ops)) { bound = laid.bound }
+  laid_made bound opened copied cleared started hiring parting halving forking laid o c d s r q u f b =
       b.made
-      ∙ ap (λ (a : Assembly). record (with_block a (flat_map block ops)) { bound = laid.bound }) u
+      ∙ ap (λ (a : Assembly). record (with_block a (flat_map block ops)) { bound = laid.bound }) f
+      ∙ ap (λ (a : Assembly). behind_parts laid.bound a) u
       ∙ ap (λ (a : Assembly). behind_part laid.bound a) q
       ∙ ap (λ (a : Assembly). behind_heap laid.bound a) r
       ∙ ap (λ (a : Assembly). behind_start laid.bound a) s
@@ -218,14 +232,15 @@ module _ (block : Placed → List MarkedLine) (opening : List MarkedLine) (globa
       ∙ ap (λ (a : Assembly). behind_start laid.bound a) (with_block-append empty (calls_front opening) (start_lines globals))
       ∙ ap (λ (a : Assembly). behind_heap laid.bound a) (with_block-append empty (start_front opening globals) (heap_lines globals))
       ∙ ap (λ (a : Assembly). behind_part laid.bound a) (with_block-append empty (heap_front opening globals) one_part_lines)
-      ∙ ap (λ (a : Assembly). record (with_block a (flat_map block ops)) { bound = laid.bound }) (with_block-append empty (part_front opening globals) two_parts_lines)
+      ∙ ap (λ (a : Assembly). behind_parts laid.bound a) (with_block-append empty (part_front opening globals) two_parts_lines)
+      ∙ ap (λ (a : Assembly). record (with_block a (flat_map block ops)) { bound = laid.bound }) (with_block-append empty (fork_front opening globals) fork_lines)
       ∙ ap (λ (a : Assembly). record a { bound = laid.bound }) (with_block-append empty (front opening globals) (flat_map block ops))
 
-  pub laid_all : (opened copied cleared started hiring parting halving laid : Assembly)
+  pub laid_all : (opened copied cleared started hiring parting halving forking laid : Assembly)
       → opened ≡ with_block (record empty { bound = replicate (label_of (length ops)) None }) opening
       → AddsCopying opened copied → AddsClearing copied cleared → AddsStart globals cleared started → AddsHeap globals started hiring
-      → AddsOnePart hiring parting → AddsTwoParts parting halving → AddsBlocks block ops halving laid → IsLaid block opening globals ops laid
-  laid_all opened copied cleared started hiring parting halving laid o c d s r q u b =
+      → AddsOnePart hiring parting → AddsTwoParts parting halving → AddsFork halving forking → AddsBlocks block ops forking laid → IsLaid block opening globals ops laid
+  laid_all opened copied cleared started hiring parting halving forking laid o c d s r q u f b =
       let bound : opened.bound ≡ replicate (label_of (length ops)) None = ap (λ (a : Assembly). a.bound) o in
       let count : length cleared.bound ≡ label_of (length ops) = d.count ∙ c.count ∙ ap length bound ∙ length-replicate (label_of (length ops)) None in
       let first : length opened.lines ≡ length opening =
@@ -245,43 +260,50 @@ module _ (block : Placed → List MarkedLine) (opening : List MarkedLine) (globa
       let sixth : length parting.lines ≡ length (part_front opening globals) =
       labelled_words one_part_label one_part_lines hiring parting q
       ∙ ap (λ n. n + length one_part_lines) fifth ∙ sym (length-append (heap_front opening globals) one_part_lines) in
-      let seventh : length halving.lines ≡ length (front opening globals) =
+      let seventh : length halving.lines ≡ length (fork_front opening globals) =
       labelled_words two_parts_label two_parts_lines parting halving u
       ∙ ap (λ n. n + length two_parts_lines) sixth ∙ sym (length-append (part_front opening globals) two_parts_lines) in
+      let eighth : length forking.lines ≡ length (front opening globals) =
+      labelled_words fork_label fork_lines halving forking f
+      ∙ ap (λ n. n + length fork_lines) seventh ∙ sym (length-append (fork_front opening globals) fork_lines) in
       let count' : length started.bound ≡ label_of (length ops) = labelled_count start_label (start_lines globals) cleared started s ∙ count in
       let count2 : length hiring.bound ≡ label_of (length ops) = labelled_count heap_label (heap_lines globals) started hiring r ∙ count' in
       let count3 : length parting.bound ≡ label_of (length ops) = labelled_count one_part_label one_part_lines hiring parting q ∙ count2 in
-      let past : (label : ℕ) → (label ≡ two_parts_label → ⊥) → (label ≡ one_part_label → ⊥) → slice_index_or halving.bound label None ≡ slice_index_or hiring.bound label None =
-      λ label apart apart'.
-      labelled_other two_parts_label two_parts_lines parting halving u label apart ∙ labelled_other one_part_label one_part_lines hiring parting q label apart' in
+      let count4 : length halving.bound ≡ label_of (length ops) = labelled_count two_parts_label two_parts_lines parting halving u ∙ count3 in
+      let past : (label : ℕ) → (label ≡ fork_label → ⊥) → (label ≡ two_parts_label → ⊥) → (label ≡ one_part_label → ⊥) → slice_index_or forking.bound label None ≡ slice_index_or hiring.bound label None =
+      λ label before apart apart'.
+      labelled_other fork_label fork_lines halving forking f label before ∙ labelled_other two_parts_label two_parts_lines parting halving u label apart ∙ labelled_other one_part_label one_part_lines hiring parting q label apart' in
       let other : (label : ℕ) → (label ≡ heap_label → ⊥) → (label ≡ start_label → ⊥) → slice_index_or hiring.bound label None ≡ slice_index_or cleared.bound label None =
       λ label apart apart'.
       labelled_other heap_label (heap_lines globals) started hiring r label apart ∙ labelled_other start_label (start_lines globals) cleared started s label apart' in
       record {
-        made = laid_made (replicate (label_of (length ops)) None) opened copied cleared started hiring parting halving laid o c d s r q u b;
-        count = b.count ∙ labelled_count two_parts_label two_parts_lines parting halving u ∙ count3;
+        made = laid_made (replicate (label_of (length ops)) None) opened copied cleared started hiring parting halving forking laid o c d s r q u f b;
+        count = b.count ∙ labelled_count fork_label fork_lines halving forking f ∙ count4;
         copies = λ n few.
-            b.others (copy_label n) (omega arith) ∙ past (copy_label n) (λ e. omega arith) (λ e. omega arith) ∙ other (copy_label n) (λ e. omega arith) (λ e. omega arith)
+            b.others (copy_label n) (omega arith) ∙ past (copy_label n) (λ e. omega arith) (λ e. omega arith) (λ e. omega arith) ∙ other (copy_label n) (λ e. omega arith) (λ e. omega arith)
             ∙ d.others (copy_label n) (λ m le e. absurd (omega arith)) ∙ c.entries n few ∙ ap (λ k. Some (k + copy_offset n)) first;
         clears = λ n few.
-            b.others (clear_label n) (omega arith) ∙ past (clear_label n) (λ e. omega arith) (λ e. omega arith) ∙ other (clear_label n) (λ e. omega arith) (λ e. omega arith)
+            b.others (clear_label n) (omega arith) ∙ past (clear_label n) (λ e. omega arith) (λ e. omega arith) (λ e. omega arith) ∙ other (clear_label n) (λ e. omega arith) (λ e. omega arith)
             ∙ d.entries n few ∙ ap (λ k. Some (k + clear_offset n)) second;
         starts =
-            b.others start_label (omega arith) ∙ past start_label (λ e. omega arith) (λ e. omega arith) ∙ labelled_other heap_label (heap_lines globals) started hiring r start_label (λ e. omega arith)
+            b.others start_label (omega arith) ∙ past start_label (λ e. omega arith) (λ e. omega arith) (λ e. omega arith) ∙ labelled_other heap_label (heap_lines globals) started hiring r start_label (λ e. omega arith)
             ∙ labelled_at start_label (start_lines globals) cleared started s (omega (arith, count)) ∙ ap Some third;
         hires =
-            b.others heap_label (omega arith) ∙ past heap_label (λ e. omega arith) (λ e. omega arith)
+            b.others heap_label (omega arith) ∙ past heap_label (λ e. omega arith) (λ e. omega arith) (λ e. omega arith)
             ∙ labelled_at heap_label (heap_lines globals) started hiring r (omega (arith, count')) ∙ ap Some fourth;
         divides =
-            b.others one_part_label (omega arith) ∙ labelled_other two_parts_label two_parts_lines parting halving u one_part_label (λ e. omega arith)
+            b.others one_part_label (omega arith) ∙ labelled_other fork_label fork_lines halving forking f one_part_label (λ e. omega arith) ∙ labelled_other two_parts_label two_parts_lines parting halving u one_part_label (λ e. omega arith)
             ∙ labelled_at one_part_label one_part_lines hiring parting q (omega (arith, count2)) ∙ ap Some fifth;
-        halves = b.others two_parts_label (omega arith) ∙ labelled_at two_parts_label two_parts_lines parting halving u (omega (arith, count3)) ∙ ap Some sixth;
+        halves =
+            b.others two_parts_label (omega arith) ∙ labelled_other fork_label fork_lines halving forking f two_parts_label (λ e. omega arith)
+            ∙ labelled_at two_parts_label two_parts_lines parting halving u (omega (arith, count3)) ∙ ap Some sixth;
+        forks = b.others fork_label (omega arith) ∙ labelled_at fork_label fork_lines halving forking f (omega (arith, count4)) ∙ ap Some seventh;
         spare = λ label is.
             let low = is.low in
             let in' : label < label_of (length ops) = omega arith in
-            b.others label is.low ∙ past label is.no_parts is.no_part ∙ other label is.no_heap is.no_start ∙ d.others label is.no_clear ∙ c.others label is.no_copy
+            b.others label is.low ∙ past label is.no_fork is.no_parts is.no_part ∙ other label is.no_heap is.no_start ∙ d.others label is.no_clear ∙ c.others label is.no_copy
             ∙ ap (λ l. slice_index_or l label None) bound ∙ get_or-replicate (label_of (length ops)) label None None in';
-        labels = λ i lt. b.labels i lt ∙ ap (λ k. Some (place block k ops i)) seventh;
+        labels = λ i lt. b.labels i lt ∙ ap (λ k. Some (place block k ops i)) eighth;
       }
 
   -- ---- labels
@@ -324,6 +346,13 @@ module _ (block : Placed → List MarkedLine) (opening : List MarkedLine) (globa
         let first = length-heaped in
         omega (arith, whole, begin, first)
 
+    forks_end : length (fork_front opening globals) ≤ end
+    forks_end =
+        let whole = length-all in
+        let begin = length-front in
+        let first = length-halved in
+        omega (arith, whole, begin, first)
+
     parts_end : length (part_front opening globals) ≤ end
     parts_end =
         let whole = length-all in
@@ -347,7 +376,10 @@ module _ (block : Placed → List MarkedLine) (opening : List MarkedLine) (globa
           | inl hire ↦ word_within label heap_label (length (start_front opening globals)) (omega arith) is.hires heap_end
           | inr part ↦ elim (cases_lt label two_parts_label) [
             | inl one ↦ word_within label one_part_label (length (heap_front opening globals)) (omega arith) is.divides part_end
-            | inr two ↦ word_within label two_parts_label (length (part_front opening globals)) (omega arith) is.halves parts_end
+            | inr two ↦ elim (cases_lt label fork_label) [
+              | inl both ↦ word_within label two_parts_label (length (part_front opening globals)) (omega arith) is.halves parts_end
+              | inr fork ↦ word_within label fork_label (length (fork_front opening globals)) (omega arith) is.forks forks_end
+            ]
           ]
         ]
       ]
@@ -415,26 +447,36 @@ module _ (block : Placed → List MarkedLine) (opening : List MarkedLine) (globa
     pub bound_two : bound two_parts_label ≡ length (part_front opening globals)
     bound_two = ap (word_or end) is.halves
 
+    pub bound_fork : bound fork_label ≡ length (fork_front opening globals)
+    bound_fork = ap (word_or end) is.forks
+
     bound_spare : (label : ℕ) → IsSpare label → bound label ≤ end
     bound_spare label spare = let e : bound label ≡ end = ap (word_or end) (is.spare label spare) in omega (arith, e)
 
     -- one behind that of `shmalloc`
     bound_past : (label : ℕ) → heap_label < label → label < clear_label 0 → bound label ≤ end
-    bound_past label from less = elim (cases_lt two_parts_label label) [
+    bound_past label from less = elim (cases_lt fork_label label) [
       | inl past ↦
           bound_spare label
-          (record { low = omega arith; no_copy = λ n le e. omega arith; no_start = λ e. omega arith; no_heap = λ e. omega arith; no_part = λ e. omega arith; no_parts = λ e. omega arith; no_clear = λ n le e. omega arith })
-      | inr here ↦ elim (cases_lt one_part_label label) [
-        | inl two ↦
-            let same : label ≡ two_parts_label = omega arith in
-            let e : bound label ≡ length (part_front opening globals) = ap bound same ∙ bound_two in
-            let le = parts_end in
+          (record { low = omega arith; no_copy = λ n le e. omega arith; no_start = λ e. omega arith; no_heap = λ e. omega arith; no_part = λ e. omega arith; no_parts = λ e. omega arith; no_fork = λ e. omega arith; no_clear = λ n le e. omega arith })
+      | inr here ↦ elim (cases_lt two_parts_label label) [
+        | inl fork ↦
+            let same : label ≡ fork_label = omega arith in
+            let e : bound label ≡ length (fork_front opening globals) = ap bound same ∙ bound_fork in
+            let le = forks_end in
             omega (arith, e, le)
-        | inr one ↦
-            let same : label ≡ one_part_label = omega arith in
-            let e : bound label ≡ length (heap_front opening globals) = ap bound same ∙ bound_one in
-            let le = part_end in
-            omega (arith, e, le)
+        | inr low ↦ elim (cases_lt one_part_label label) [
+          | inl two ↦
+              let same : label ≡ two_parts_label = omega arith in
+              let e : bound label ≡ length (part_front opening globals) = ap bound same ∙ bound_two in
+              let le = parts_end in
+              omega (arith, e, le)
+          | inr one ↦
+              let same : label ≡ one_part_label = omega arith in
+              let e : bound label ≡ length (heap_front opening globals) = ap bound same ∙ bound_one in
+              let le = part_end in
+              omega (arith, e, le)
+        ]
       ]
     ]
 
@@ -513,8 +555,11 @@ module _ (block : Placed → List MarkedLine) (opening : List MarkedLine) (globa
       in_front : Within all 0 (front opening globals)
       in_front = within_front all (front opening globals) (flat_map block ops) 0 (within_self all)
 
+      in_halved : Within all 0 (fork_front opening globals)
+      in_halved = within_front all (fork_front opening globals) fork_lines 0 in_front
+
       in_parted : Within all 0 (part_front opening globals)
-      in_parted = within_front all (part_front opening globals) two_parts_lines 0 in_front
+      in_parted = within_front all (part_front opening globals) two_parts_lines 0 in_halved
 
       in_heaped : Within all 0 (heap_front opening globals)
       in_heaped = within_front all (heap_front opening globals) one_part_lines 0 in_parted
@@ -562,7 +607,12 @@ module _ (block : Placed → List MarkedLine) (opening : List MarkedLine) (globa
       pub has_two_parts : LinesAt image bound (bound two_parts_label) two_parts_lines
       has_two_parts =
           subst (λ k. LinesAt image bound k two_parts_lines) (sym bound_two)
-          (lines_at image a.bound all code end (length (part_front opening globals)) two_parts_lines (behind (part_front opening globals) two_parts_lines in_front))
+          (lines_at image a.bound all code end (length (part_front opening globals)) two_parts_lines (behind (part_front opening globals) two_parts_lines in_halved))
+
+      pub has_fork : LinesAt image bound (bound fork_label) fork_lines
+      has_fork =
+          subst (λ k. LinesAt image bound k fork_lines) (sym bound_fork)
+          (lines_at image a.bound all code end (length (fork_front opening globals)) fork_lines (behind (fork_front opening globals) fork_lines in_front))
 
       pub has_block : (returns : (index : ℕ) → Option ReturnPoint) (frames : Frames) (i : ℕ) (op : Placed) → slice_get ops i ≡ Some op
           → HasBlock image bound (places returns frames) i (block op)

@@ -3,7 +3,7 @@ use Rattle.std.proofs.Common.{◌≡◌, ℕ, ◌+◌, ◌≤◌, [], ap, subst,
 use Rattle.fk_num.specs.Word.{Memory}
 use Rattle.fk_sim_block.specs.Stands.{Places, ahead}
 use Rattle.fk_gen_flow.proofs.Begins.{begins_in_root}
-use Rattle.fk_sim_block.specs.Node.{Nestings, HasNestings, HasOuter, HasSaved, past_levels, saved_at}
+use Rattle.fk_sim_block.specs.Node.{Nestings, HasNestings, HasOuter, HasSaved, past_levels, saved_at, frames_word}
 use Rattle.fk_gen_list.specs.Opening.{GroupsBegin}
 
 -- no level is round a processor in the root
@@ -12,7 +12,7 @@ root_nestings : (places : Places) (nestings : Nestings) (processors number main 
 root_nestings places nestings processors number main m none room = (
   (
     omega arith,
-    subst (λ c. HasSaved m (saved_at places nestings 0 main) c []) (sym none) tt,
+    subst (λ c. HasSaved m (nestings.forks main) (frames_word 0) (saved_at places nestings 0 main) c []) (sym none) tt,
     subst (λ c. HasOuter places nestings processors number m [] (past_levels c [])) (sym none) tt,
   ),
   tt,

@@ -19,11 +19,11 @@ use Rattle.fk_core.specs.Next.{is_jump}
 use Rattle.fk_core.specs.Numbers.{operation_of}
 use Rattle.fk_meaning_store.specs.Store.{address_of}
 use Rattle.fk_isa.specs.declared.instruction.Instruction.{Instruction}
-use Rattle.fk_isa.specs.declared.instruction.Instruction.TheVariants.{Add}
+use Rattle.fk_isa.specs.declared.instruction.Instruction.TheVariants.{Add, Jal, Sw}
 use Rattle.fk_asm.specs.Block.{MarkedLine}
 use Rattle.fk_gen.specs.declared.placed.Levels.{Levels}
 use Rattle.fk_gen.specs.declared.placed.Placed.{Placed}
-use Rattle.fk_gen.specs.Lines.{quiet, commits, first_commits, high_part, load_by, load_number, add_by, add_number}
+use Rattle.fk_gen.specs.Lines.{quiet, commits, first_commits, high_part, load_by, load_number, add_by, add_number, goes_to, at_value, label_of}
 use Rattle.fk_gen.specs.Registers.{t0, t1}
 use Rattle.fk_gen.specs.Operands.{operand, result}
 use Rattle.fk_core_liveness.specs.declared.set.Set.{Set}
@@ -160,9 +160,40 @@ meet_all n word size =
     (All-from_recursion IsUnlabeled (group.meet_block word size) (refl, (refl, (refl, (refl, (refl, (refl, (refl, (refl, (refl, (refl, (refl, tt))))))))))))
 
 -- the labels of the code that splits share
-parts_low : (by : SplitKind) → splits.parts_label by ≤ splits.two_parts_label
+parts_low : (by : SplitKind) → splits.parts_label by ≤ splits.fork_label
 parts_low split.IfElse = omega arith
+parts_low split.Fork = omega arith
 parts_low by = omega arith
+
+-- where the frames of a group around a part end
+frames_end_quiet : (count words : ℕ) → All IsUnlabeled (splits.frames_end count words)
+frames_end_quiet count words = by (count == 1)
+  where
+    by : (first : Bool) → All IsUnlabeled (if first then splits.header_frames else splits.frames_sum words)
+    by true = All-from_recursion IsUnlabeled splits.header_frames (refl, tt)
+    by false =
+        All-append IsUnlabeled (map quiet (add_number (32 + 4 * words) 10)) splits.found_line (quiet_all (add_number (32 + 4 * words) 10))
+        (All-from_recursion IsUnlabeled splits.found_line (refl, tt))
+
+end_goes : (n : ℕ) (levels : Levels) (target : ℕ) → GoesTo n (goes_to (Jal 0 0) (label_of target)) → (fork : Option ℕ) → All (GoesTo n) (splits.end_part_by fork levels target)
+end_goes n levels target jump None = All-from_recursion (GoesTo n) (splits.outward_lines true (splits.last_level levels) target) (tt, (tt, (tt, (tt, (jump, tt)))))
+end_goes n levels target jump (Some words) =
+    All-append (GoesTo n) (splits.forked_front (splits.last_level levels)) (splits.frames_end levels.count words ++ splits.away_line target)
+    (All-from_recursion (GoesTo n) (splits.forked_front (splits.last_level levels)) (tt, (tt, (tt, (tt, (tt, (tt, tt)))))))
+    (All-append (GoesTo n) (splits.frames_end levels.count words) (splits.away_line target) (go_nowhere n (splits.frames_end levels.count words) (frames_end_quiet levels.count words))
+    (All-from_recursion (GoesTo n) (splits.away_line target) (jump, tt)))
+
+heading_quiet : (by : SplitKind) (levels : Levels) → All IsUnlabeled (splits.heading_lines by levels)
+heading_quiet split.Fork levels = by (levels.count == 0)
+  where
+    by : (first : Bool) → All IsUnlabeled (if first then quiet (Sw 9 28 (at_value 60)) ∷ [] else [])
+    by true = All-from_recursion IsUnlabeled (quiet (Sw 9 28 (at_value 60)) ∷ []) (refl, tt)
+    by false = All-nil IsUnlabeled
+heading_quiet split.IfAlone levels = All-nil IsUnlabeled
+heading_quiet split.IfElse levels = All-nil IsUnlabeled
+heading_quiet split.AndThen levels = All-nil IsUnlabeled
+heading_quiet split.OrElse levels = All-nil IsUnlabeled
+heading_quiet split.Loop levels = All-nil IsUnlabeled
 
 group_all : (n back : ℕ) (levels : Levels) (op : CoreOp) (operation : Option Operation) → Leads n back op operation → All (GoesTo n) (group.block_by operation levels op.depth op.target op.site)
 group_all n back levels op (Some o.Begin) leads =
@@ -175,7 +206,7 @@ group_all n back levels op (Some o.End) leads = by (levels.count == 0)
   where
     by : (start : Bool) → All (GoesTo n) (if start then group.end_block op.target else splits.end_part_block levels op.target)
     by true = All-from_recursion (GoesTo n) (group.end_block op.target) (tt, (tt, (tt, (tt, (tt, (tt, (jump_goes n op.target leads, tt)))))))
-    by false = All-from_recursion (GoesTo n) (splits.end_part_block levels op.target) (tt, (tt, (tt, (tt, (jump_goes n op.target leads, tt)))))
+    by false = end_goes n levels op.target (jump_goes n op.target leads) levels.fork
 group_all n back levels op (Some o.Resume) leads = meet_all n 1 20
 group_all n back levels op (Some (o.Meet false)) leads = meet_all n 0 11
 group_all n back levels op (Some (o.Meet true)) leads = meet_all n 1 20
@@ -188,10 +219,12 @@ group_all n back levels op (Some o.Block) leads =
     (All-from_recursion IsUnlabeled (group.shalloc_block op.depth)
     (refl, (refl, (refl, (refl, (refl, (refl, (refl, (refl, (refl, (refl, (refl, (refl, (refl, tt))))))))))))))
 group_all n back levels op (Some (o.Split by)) leads =
-    All-append (GoesTo n) (map quiet (splits.part_lines by op.depth)) (splits.parting_lines (splits.parts_label by) (splits.level_word levels levels.count) op.target op.site)
+    All-append (GoesTo n) (map quiet (splits.part_lines by op.depth)) (splits.behind_part by levels op.target op.site)
     (go_nowhere n (map quiet (splits.part_lines by op.depth)) (quiet_all (splits.part_lines by op.depth)))
+    (All-append (GoesTo n) (splits.parting_lines (splits.parts_label by) (splits.level_word levels levels.count) op.target op.site) (splits.heading_lines by levels)
     (All-from_recursion (GoesTo n) (splits.parting_lines (splits.parts_label by) (splits.level_word levels levels.count) op.target op.site)
     (tt, ((inl (parts_low by), (1, refl)), (jump_goes n op.target leads, (tt, (tt, (tt, tt)))))))
+    (go_nowhere n (splits.heading_lines by levels) (heading_quiet by levels)))
 group_all n back levels op (Some o.Shrink) leads =
     All-append (GoesTo n) (splits.staying_lines op.depth) (splits.outward_lines false (splits.last_level levels) op.target ++ splits.size_line)
     (All-from_recursion (GoesTo n) (splits.staying_lines op.depth) (tt, (tt, (tt, (tt, (tt, (tt, tt)))))))
@@ -217,12 +250,6 @@ block_all n p few jumps leads = by (kind_of p.op)
 
 -- ---- in a list
 
--- a `fork` has no block
-no_fork : {A : Type 0} → HasOwnBlock (o.Split split.Fork) → A
-no_fork (inl alone) = absurd (cc)
-no_fork (inr (inl halt)) = absurd (cc)
-no_fork (inr (inr step)) = absurd (cc)
-
 leads_by : (core : List CoreOp) (kept : List Set) (saved : List Levels) (main : ℕ) (firsts : List ℕ) (i : ℕ) (op : CoreOp) (operation : Option Operation)
     → IsGenerable core kept saved main firsts → slice_get core i ≡ Some op → is_jump op ≡ false → operation_of op.kind op.number ≡ operation
     → Leads (length core) (back_by operation core i) op operation
@@ -239,7 +266,7 @@ leads_by core kept saved main firsts i op (Some (o.Split split.IfElse)) is e qui
 leads_by core kept saved main firsts i op (Some (o.Split split.AndThen)) is e quiet' read = is.blocks.targets i op (o.Split split.AndThen) (record { stands = e; no_jump = quiet'; is_read = read }) refl
 leads_by core kept saved main firsts i op (Some (o.Split split.OrElse)) is e quiet' read = is.blocks.targets i op (o.Split split.OrElse) (record { stands = e; no_jump = quiet'; is_read = read }) refl
 leads_by core kept saved main firsts i op (Some (o.Split split.Loop)) is e quiet' read = is.blocks.targets i op (o.Split split.Loop) (record { stands = e; no_jump = quiet'; is_read = read }) refl
-leads_by core kept saved main firsts i op (Some (o.Split split.Fork)) is e quiet' read = no_fork (is.blocks.operations i op (o.Split split.Fork) (record { stands = e; no_jump = quiet'; is_read = read }))
+leads_by core kept saved main firsts i op (Some (o.Split split.Fork)) is e quiet' read = is.blocks.targets i op (o.Split split.Fork) (record { stands = e; no_jump = quiet'; is_read = read }) refl
 leads_by core kept saved main firsts i op (Some o.Shrink) is e quiet' read = is.blocks.targets i op o.Shrink (record { stands = e; no_jump = quiet'; is_read = read }) refl
 leads_by core kept saved main firsts i op operation is e quiet' read = tt
 
@@ -387,7 +414,26 @@ split_words split.IfElse levels d target site = omega arith
 split_words split.AndThen levels d target site = omega arith
 split_words split.OrElse levels d target site = omega arith
 split_words split.Loop levels d target site = omega arith
-split_words split.Fork levels d target site = omega arith
+split_words split.Fork levels d target site = by (levels.count == 0)
+  where
+    by : (first : Bool) → 9 + length (if first then quiet (Sw 9 28 (at_value 60)) ∷ [] else []) ≤ 15
+    by true = omega arith
+    by false = omega arith
+
+end_words : (fork : Option ℕ) (levels : Levels) (target : ℕ) → length (splits.end_part_by fork levels target) ≤ 15
+end_words None levels target = omega arith
+end_words (Some words) levels target =
+    let all = length-append (splits.frames_end levels.count words) (splits.away_line target) in
+    let few = frames_few (levels.count == 1) in
+    omega arith
+  where
+    frames_few : (first : Bool) → length (if first then splits.header_frames else splits.frames_sum words) ≤ 4
+    frames_few true = omega arith
+    frames_few false =
+        let both = length-append (map quiet (add_number (32 + 4 * words) 10)) splits.found_line in
+        let same = length-map (add_number (32 + 4 * words) 10) quiet in
+        let sum = sum_few (high_part (32 + 4 * words) == 0) (32 + 4 * words) 10 in
+        omega arith
 
 group_words : (operation : Option Operation) (levels : Levels) (d target site : ℕ) → length (group.block_by operation levels d target site) ≤ words_by operation
 group_words (Some o.Begin) levels d target site = omega arith
@@ -398,7 +444,7 @@ group_words (Some o.End) levels d target site = by (levels.count == 0)
   where
     by : (start : Bool) → length (if start then group.end_block target else splits.end_part_block levels target) ≤ 15
     by true = omega arith
-    by false = omega arith
+    by false = end_words levels.fork levels target
 group_words (Some (o.Split by)) levels d target site = split_words by levels d target site
 group_words (Some o.Shrink) levels d target site = omega arith
 group_words (Some o.Resume) levels d target site = omega arith
@@ -498,6 +544,12 @@ one_part_goes n =
     go_nowhere n splits.one_part_lines
     (All-from_recursion IsUnlabeled splits.one_part_lines
     (refl, (refl, (refl, (refl, (refl, (refl, (refl, (refl, (refl, (refl, (refl, (refl, (refl, (refl, (refl, (refl, (refl, (refl, (refl, (refl, (refl, (refl, tt)))))))))))))))))))))))
+
+pub fork_goes : (n : ℕ) → All (GoesTo n) splits.fork_lines
+fork_goes n =
+    go_nowhere n splits.fork_lines
+    (All-from_recursion IsUnlabeled splits.fork_lines
+    (refl, (refl, (refl, (refl, (refl, (refl, (refl, (refl, (refl, (refl, (refl, (refl, (refl, (refl, (refl, (refl, (refl, (refl, (refl, (refl, (refl, (refl, (refl, (refl, (refl, (refl, (refl, (refl, (refl, (refl, (refl, (refl, (refl, (refl, (refl, (refl, (refl, (refl, (refl, (refl, tt)))))))))))))))))))))))))))))))))))))))))
 
 pub two_parts_goes : (n : ℕ) → All (GoesTo n) splits.two_parts_lines
 two_parts_goes n =

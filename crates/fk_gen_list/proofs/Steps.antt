@@ -12,12 +12,12 @@ use Rattle.fk_gen_flow.specs.Calls.{most_privates}
 use Rattle.fk_gen.specs.declared.placed.Levels.{Levels}
 use Rattle.fk_gen.specs.declared.placed.Placed.{Placed}
 use Rattle.fk_gen_group.specs.Blocks.{start_label, start_lines}
-use Rattle.fk_gen_group.specs.Splits.{one_part_label, two_parts_label, one_part_lines, two_parts_lines}
+use Rattle.fk_gen_group.specs.Splits.{one_part_label, two_parts_label, fork_label, one_part_lines, two_parts_lines, fork_lines}
 use Rattle.fk_gen_list.specs.Generable.{IsGenerable, most_words}
 use Rattle.fk_gen_list.specs.Kinds.{block_of}
-use Rattle.fk_gen_list.specs.Layout.{copying_lines, clearing_lines, AddsBlocks, AddsCopying, AddsClearing, AddsStart, AddsHeap, AddsOnePart, AddsTwoParts, IsLaid}
+use Rattle.fk_gen_list.specs.Layout.{copying_lines, clearing_lines, AddsBlocks, AddsCopying, AddsClearing, AddsStart, AddsHeap, AddsOnePart, AddsTwoParts, AddsFork, IsLaid}
 use Rattle.fk_gen_list.proofs.Blocks.{length-with_block}
-use Rattle.fk_gen_list.proofs.Laid.{GoesTo, length-copying, length-clearing, length-start, length-heap, length-one, length-two, labelled_count, labelled_other, labelled_words, laid_all}
+use Rattle.fk_gen_list.proofs.Laid.{GoesTo, length-copying, length-clearing, length-start, length-heap, length-one, length-two, length-fork, labelled_count, labelled_other, labelled_words, laid_all}
 use Rattle.fk_gen_list.proofs.Laying.{few_ops, goes_to_made, labelled, opened_words, opened_labels, opened_free, opened_followed}
 use Rattle.fk_gen_list.proofs.Shapes.{all_words, opening_length}
 use Rattle.fk_gen_list.proofs.Whole.{ops, opening, length-ops, blocks_go, few_firsts}
@@ -165,45 +165,67 @@ module _ (core : List CoreOp) (kept : List Set) (saved : List Levels) (main : �
                 ∙ free_past two_parts_label (omega arith) (omega arith)
 
             module _ (halving : Assembly) (halves : AddsTwoParts parting halving) where
-              abbrev list : List Placed
-              list = ops core kept saved main firsts globals is
-
-              labels_halving : length halving.bound ≡ label_of (length core)
-              labels_halving = labelled_count two_parts_label two_parts_lines parting halving halves ∙ labels_parting
-
-              pub blocks_made : All (λ op. All (GoesToMade halving.bound) (block_of op)) (ops core kept saved main firsts globals is)
-              blocks_made =
-                  let count : length halving.bound ≡ label_of (length list) = labels_halving ∙ ap label_of (sym (length-ops core kept saved main firsts globals is)) in
-                  All-weaker (λ op. All (GoesTo (length list)) (block_of op))
-                  (λ op. All (GoesToMade halving.bound) (block_of op))
-                  (λ op go. goes_to_made (length list) halving.bound (block_of op) count go)
-                  list (blocks_go core kept saved main firsts globals is)
-
-              pub room_for_blocks : length halving.lines + length (flat_map block_of (ops core kept saved main firsts globals is)) < 2 ^ 30
-              room_for_blocks =
+              words_halving : length halving.lines ≡ 3 * length firsts + 301
+              words_halving =
                   let w = words_parting in
-                  let few = few_firsts core kept saved main firsts globals is in
                   let grown = labelled_words two_parts_label two_parts_lines parting halving halves in
                   let two = length-two in
-                  let blocks = all_words core globals kept saved 0 core in
-                  omega (arith, w, few, grown, two, blocks, small)
+                  omega (arith, w, grown, two)
 
-              pub labels_free : (i : ℕ) → i < length core → slice_index_or halving.bound (label_of i) None ≡ None
-              labels_free i lt =
-                  labelled_other two_parts_label two_parts_lines parting halving halves (label_of i) (λ e. omega arith)
-                  ∙ labelled_other one_part_label one_part_lines hiring parting parts (label_of i) (λ e. omega arith)
-                  ∙ labelled_other heap_label (heap_lines globals) started hiring hires (label_of i) (λ e. omega arith)
-                  ∙ labelled_other start_label (start_lines globals) cleared started starts (label_of i) (λ e. omega arith)
-                  ∙ clears.others (label_of i) (λ m few e. absurd (omega arith))
-                  ∙ copies.others (label_of i) (λ m few e. absurd (omega arith))
-                  ∙ free_opened (label_of i) (omega arith)
+              pub room_for_forking : length halving.lines < 2 ^ 20
+              room_for_forking = let w = words_halving in let few = few_firsts core kept saved main firsts globals is in omega (arith, w, few)
 
-              pub enough_labels : label_of (length core) ≤ length halving.bound
-              enough_labels = let e = labels_halving in omega (arith, e)
+              pub labels_halving : length halving.bound ≡ label_of (length core)
+              labels_halving = labelled_count two_parts_label two_parts_lines parting halving halves ∙ labels_parting
 
-              pub all_laid : (laid : Assembly) → AddsBlocks block_of (ops core kept saved main firsts globals is) halving laid
-                  → IsLaid block_of first globals (ops core kept saved main firsts globals is) laid
-              all_laid laid blocks =
-                  let again : opened ≡ with_block (labelled (length list) first) first =
-                  made ∙ ap (λ (n : ℕ). with_block (labelled n first) first) (sym (length-ops core kept saved main firsts globals is)) in
-                  laid_all block_of first globals list opened copied cleared started hiring parting halving laid again copies clears starts hires parts halves blocks
+              pub free_halving : slice_index_or halving.bound fork_label None ≡ None
+              free_halving =
+                  labelled_other two_parts_label two_parts_lines parting halving halves fork_label (λ e. omega arith)
+                  ∙ labelled_other one_part_label one_part_lines hiring parting parts fork_label (λ e. omega arith)
+                  ∙ labelled_other heap_label (heap_lines globals) started hiring hires fork_label (λ e. omega arith)
+                  ∙ free_past fork_label (omega arith) (omega arith)
+
+              module _ (forking : Assembly) (forks : AddsFork halving forking) where
+                abbrev list : List Placed
+                list = ops core kept saved main firsts globals is
+
+                labels_forking : length forking.bound ≡ label_of (length core)
+                labels_forking = labelled_count fork_label fork_lines halving forking forks ∙ labels_halving
+
+                pub blocks_made : All (λ op. All (GoesToMade forking.bound) (block_of op)) (ops core kept saved main firsts globals is)
+                blocks_made =
+                    let count : length forking.bound ≡ label_of (length list) = labels_forking ∙ ap label_of (sym (length-ops core kept saved main firsts globals is)) in
+                    All-weaker (λ op. All (GoesTo (length list)) (block_of op))
+                    (λ op. All (GoesToMade forking.bound) (block_of op))
+                    (λ op go. goes_to_made (length list) forking.bound (block_of op) count go)
+                    list (blocks_go core kept saved main firsts globals is)
+
+                pub room_for_blocks : length forking.lines + length (flat_map block_of (ops core kept saved main firsts globals is)) < 2 ^ 30
+                room_for_blocks =
+                    let w = words_halving in
+                    let few = few_firsts core kept saved main firsts globals is in
+                    let grown = labelled_words fork_label fork_lines halving forking forks in
+                    let two = length-fork in
+                    let blocks = all_words core globals kept saved 0 core in
+                    omega (arith, w, few, grown, two, blocks, small)
+
+                pub labels_free : (i : ℕ) → i < length core → slice_index_or forking.bound (label_of i) None ≡ None
+                labels_free i lt =
+                    labelled_other fork_label fork_lines halving forking forks (label_of i) (λ e. omega arith)
+                    ∙ labelled_other two_parts_label two_parts_lines parting halving halves (label_of i) (λ e. omega arith)
+                    ∙ labelled_other one_part_label one_part_lines hiring parting parts (label_of i) (λ e. omega arith)
+                    ∙ labelled_other heap_label (heap_lines globals) started hiring hires (label_of i) (λ e. omega arith)
+                    ∙ labelled_other start_label (start_lines globals) cleared started starts (label_of i) (λ e. omega arith)
+                    ∙ clears.others (label_of i) (λ m few e. absurd (omega arith))
+                    ∙ copies.others (label_of i) (λ m few e. absurd (omega arith))
+                    ∙ free_opened (label_of i) (omega arith)
+
+                pub enough_labels : label_of (length core) ≤ length forking.bound
+                enough_labels = let e = labels_forking in omega (arith, e)
+
+                pub all_laid : (laid : Assembly) → AddsBlocks block_of (ops core kept saved main firsts globals is) forking laid
+                    → IsLaid block_of first globals (ops core kept saved main firsts globals is) laid
+                all_laid laid blocks =
+                    let again : opened ≡ with_block (labelled (length list) first) first =
+                    made ∙ ap (λ (n : ℕ). with_block (labelled n first) first) (sym (length-ops core kept saved main firsts globals is)) in
+                    laid_all block_of first globals list opened copied cleared started hiring parting halving forking laid again copies clears starts hires parts halves forks blocks

@@ -23,7 +23,7 @@ use Rattle.fk_gen_access.specs.Blocks.{is_access}
 use Rattle.fk_gen_flow.specs.Blocks.{is_flow, is_some_flow, HasOperands}
 use Rattle.fk_gen.specs.declared.placed.Levels.{Levels}
 use Rattle.fk_gen_flow.specs.Calls.{most_privates}
-use Rattle.fk_gen_group.specs.Blocks.{is_group_step, HasWords, HasLevelWords}
+use Rattle.fk_gen_group.specs.Blocks.{is_group_step, HasWords, HasLevelWords, HasSplitValues}
 use Rattle.fk_gen_list.specs.declared.kind.Kind.TheVariants.{Group}
 use Rattle.fk_gen_list.specs.Kinds.{kind_of, kind_by, HasBlockIn, HasBlockOf}
 use Rattle.fk_gen_list.specs.Layout.{back_by}
@@ -87,7 +87,7 @@ pub node_words : (operation : Operation) (levels : Levels) → HasLevelWords (So
 node_words (Get known) levels has = has
 node_words operation levels has = tt
 
-pub no_node_words : (operation : Operation) → HasNodeWords operation (record { count = 0; behind = 0; nest = 0 })
+pub no_node_words : (operation : Operation) → HasNodeWords operation (record { count = 0; behind = 0; nest = 0; fork = None })
 no_node_words (Get known) = omega arith
 no_node_words operation = tt
 
@@ -225,19 +225,20 @@ module _ (core : List CoreOp) (frames : Frames) (i globals : ℕ) (op : CoreOp) 
 
   -- an operation that suits frames has a block
   pub has_block_of : OpAt core i op operation → Fits core frames i op operation → frames.of_file ≤ 56 → op.number < 2 ^ 32 → HasOperands op.depth op.target back (Some operation)
-      → globals ≤ 2 ^ 20 → (is_group_step (Some operation) ≡ true → op.target < 2 ^ 31) → HasLevelWords (Some operation) levels → HasOwnBlock operation
+      → globals ≤ 2 ^ 20 → (is_group_step (Some operation) ≡ true → op.target < 2 ^ 31) → HasLevelWords (Some operation) levels → HasSplitValues (Some operation) op.depth → HasOwnBlock operation
       → HasBlockOf (record { op = op; globals = globals; clears = clears; back = back; levels = levels })
-  has_block_of stands fits few number operands some near room (inl alone) =
+  has_block_of stands fits few number operands some near room values (inl alone) =
       lone_has (alone_is_no_step operation alone) stands fits few number operands some (node_words operation levels room) (inl alone)
-  has_block_of stands fits few number operands some near room (inr (inl halt)) =
+  has_block_of stands fits few number operands some near room values (inr (inl halt)) =
       lone_has (ap (λ o. is_group_step (Some o)) halt) stands fits few number operands some (node_words operation levels room) (inr halt)
-  has_block_of stands fits few number operands some near room (inr (inr step)) =
+  has_block_of stands fits few number operands some near room values (inr (inr step)) =
       subst (λ k. HasBlockIn k (record { op = op; globals = globals; clears = clears; back = back; levels = levels })) (sym (kind_here core i op operation stands ∙ step_kind operation step))
       (record {
         kind = ap is_group_step stands.is_read ∙ step;
         depth = shallow core frames i op operation fits;
         target = near step;
         words = subst HasWords (sym stands.is_read) (frame_words core frames i op operation fits);
+        values = subst (λ o. HasSplitValues o op.depth) (sym stands.is_read) values;
         levels = subst (λ o. HasLevelWords o levels) (sym stands.is_read) room;
       })
 

@@ -12,18 +12,18 @@ use Rattle.fk_core_liveness.specs.declared.set.Set.{Set}
 use Rattle.fk_gen.specs.declared.placed.Levels.{Levels}
 use Rattle.fk_gen.specs.declared.placed.Placed.{Placed}
 use Rattle.fk_gen_access.specs.Heap.{heap_lines}
-use Rattle.fk_gen_group.specs.Splits.{one_part_lines, two_parts_lines}
+use Rattle.fk_gen_group.specs.Splits.{one_part_lines, two_parts_lines, fork_lines}
 use Rattle.fk_gen_flow.specs.Opening.{opening_lines}
 use Rattle.fk_gen_group.specs.Blocks.{start_lines}
 use Rattle.fk_gen_list.specs.Generable.{IsGenerable, most_words}
 use Rattle.fk_gen_list.specs.Kinds.{block_of}
-use Rattle.fk_gen_list.specs.Layout.{placed, all_placed, copying_lines, clearing_lines, calls_front, start_front, heap_front, part_front, front, all_lines, IsLaid}
+use Rattle.fk_gen_list.specs.Layout.{placed, all_placed, copying_lines, clearing_lines, calls_front, start_front, heap_front, part_front, fork_front, front, all_lines, IsLaid}
 use Rattle.fk_gen_list.proofs.Chain.{copying_straight, clearing_straight}
 use Rattle.fk_gen_list.proofs.InImage.{IsAssembled}
 use Rattle.fk_gen_list.proofs.Laid.{GoesTo, length-front, all_go_far}
 use Rattle.fk_gen_list.proofs.Near.{are_bound, none_too_far}
 use Rattle.fk_gen_list.proofs.AllPlaced.{length-placed, all_from}
-use Rattle.fk_gen_list.proofs.Shapes.{go_nowhere, op_goes, all_words, start_goes, heap_goes, one_part_goes, two_parts_goes, opening_goes, opening_length}
+use Rattle.fk_gen_list.proofs.Shapes.{go_nowhere, op_goes, all_words, start_goes, heap_goes, one_part_goes, two_parts_goes, fork_goes, opening_goes, opening_length}
 
 all_flat : (P : MarkedLine → Type 0) (block : Placed → List MarkedLine) (ops : List Placed) → All (λ op. All P (block op)) ops
     → All P (flat_map block ops)
@@ -56,6 +56,7 @@ module _ (core : List CoreOp) (kept : List Set) (saved : List Levels) (main : �
   all_go =
       let main_there : main < length ops = let e = length-ops in let lt = is.begins in omega (arith, e, lt) in
       All-append (GoesTo (length ops)) (front opening globals) (flat_map block_of ops)
+      (All-append (GoesTo (length ops)) (fork_front opening globals) fork_lines
       (All-append (GoesTo (length ops)) (part_front opening globals) two_parts_lines
       (All-append (GoesTo (length ops)) (heap_front opening globals) one_part_lines
       (All-append (GoesTo (length ops)) (start_front opening globals) (heap_lines globals)
@@ -69,12 +70,13 @@ module _ (core : List CoreOp) (kept : List Set) (saved : List Levels) (main : �
       (heap_goes (length ops) globals))
       (one_part_goes (length ops)))
       (two_parts_goes (length ops)))
+      (fork_goes (length ops)))
       (all_flat (GoesTo (length ops)) block_of ops blocks_go)
 
   pub few_firsts : length firsts ≤ 56
   few_firsts = let few = is.suits.few in let same = is.of_file in omega arith
 
-  pub length-whole : length whole ≡ 3 * length firsts + 301 + length (flat_map block_of ops)
+  pub length-whole : length whole ≡ 3 * length firsts + 341 + length (flat_map block_of ops)
   length-whole =
       let sum = length-append (front opening globals) (flat_map block_of ops) in
       let first = length-front block_of opening globals ops in

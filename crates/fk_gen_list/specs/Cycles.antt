@@ -55,7 +55,8 @@ before_of op operation = before_in (lone_kind operation) op operation
 
 -- The group of `start` ends where the frame has no levels.
 abbrev pub end_takes : Levels → ℕ
-end_takes levels = if levels.count == 0 then 6 else end_part_takes
+end_takes levels =
+    if levels.count == 0 then 6 else end_part_takes levels.fork levels.count
 
 abbrev pub behind_of : Placed → Operation → (onward : Bool) → ℕ
 behind_of here Begin onward = if onward then 21 else 11
@@ -63,7 +64,7 @@ behind_of here Agree onward = 1
 behind_of here Seq onward = 2
 behind_of here End onward = end_takes here.levels
 behind_of here Block onward = 12
-behind_of here (Split by) onward = split_goes_on by onward
+behind_of here (Split by) onward = split_goes_on by here.levels.count onward
 behind_of here Shrink onward = shrink_goes_on onward
 behind_of here operation onward = behind_in (lone_kind operation) here operation onward
 

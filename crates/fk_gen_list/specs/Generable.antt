@@ -23,7 +23,7 @@ use Rattle.fk_gen_access.specs.Heap.{HasHeap}
 use Rattle.fk_gen_flow.specs.Calls.{HasShared}
 use Rattle.fk_gen_flow.specs.Laws.{return_in}
 use Rattle.fk_gen_flow.specs.Opening.{HasOpening}
-use Rattle.fk_gen_group.specs.Blocks.{HasStart, HasLevelWords, is_group_step}
+use Rattle.fk_gen_group.specs.Blocks.{HasStart, HasLevelWords, HasSplitValues, is_group_step}
 use Rattle.fk_gen_group.specs.Splits.{HasParts}
 use Rattle.fk_gen_list.specs.Kinds.{block_of}
 use Rattle.fk_gen.specs.Levels.{levels_in}
@@ -58,9 +58,8 @@ pub record HasBlocks (core : List CoreOp) : Type 0 where
   pub returns : (i : ℕ) (op : CoreOp) (arguments : ℕ) → OpAt core i op (Enter arguments)
       → behind_jump core (suc i) < length core
 
--- A list without a `fork`. It suits some frames with as many private variables of file scope as
--- there are first values, in which calls keep no words except these, and which have room for these
--- levels.
+-- A list that suits some frames with as many private variables of file scope as there are first
+-- values, in which calls keep no words except these, and which have room for these levels.
 pub record IsGenerable (core : List CoreOp) (kept : List Set) (saved : List Levels) (main : ℕ)
     (firsts : List ℕ) : Type 0 where
   pub blocks : HasBlocks core
@@ -73,6 +72,8 @@ pub record IsGenerable (core : List CoreOp) (kept : List Set) (saved : List Leve
   pub of_file : frames.of_file ≡ length firsts
   pub levels : (i : ℕ) (op : CoreOp) (operation : Operation) → OpAt core i op operation
       → HasLevelWords (Some operation) (levels_in saved i)
+  pub values : (i : ℕ) (op : CoreOp) (operation : Operation) → OpAt core i op operation
+      → HasSplitValues (Some operation) op.depth
   -- The numbers are words, as in every slice.
   pub words : All (λ op. (op.site < 2 ^ 32) × (op.number < 2 ^ 32)) core
   pub first_words : All (λ v. v < 2 ^ 32) firsts

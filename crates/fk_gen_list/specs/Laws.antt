@@ -1,6 +1,6 @@
 -- What the code of a list does: for processors by themselves, and for groups.
 use Rattle.std.specs.Prelude.{◌≡◌, ℕ, suc, ◌-◌, ◌<◌, ◌≤◌, ◌^◌, List, [], length, Bool, true, false}
-use Rattle.std.specs.Prelude.{Some, slice_get, slice_index}
+use Rattle.std.specs.Prelude.{Option, Some, None, slice_get, slice_index}
 use Rattle.fk_meaning_operation.specs.declared.operation.SplitKind.{SplitKind}
 use Rattle.fk_meaning_operation.specs.declared.operation.Operation.{Operation}
 use Rattle.fk_meaning_operation.specs.declared.operation.Operation.TheVariants.{Begin, Seq, End}
@@ -33,7 +33,7 @@ use Rattle.fk_sim_block.specs.Law.{Cycles, GroupLaw, BlockDoesInNode, BlockJumps
 use Rattle.fk_sim_block.specs.Law.{BeginsInNode}
 use Rattle.fk_gen_group.specs.Blocks.{HasStart, block_by, is_group_step}
 use Rattle.fk_gen_group.specs.Splits.{HasParts}
-use Rattle.fk_gen_group.specs.Laws.{GoesOnWith, GoesAside, levels_at}
+use Rattle.fk_gen_group.specs.Laws.{GoesOnWith, GoesAside, levels_at, last_fork}
 use Rattle.fk_gen_group.specs.Start.{gathering_of}
 use Rattle.fk_gen_group.specs.InNode.{LevelsFit}
 use Rattle.fk_gen_list.specs.Cycles.{lone_kind, cycles_of}
@@ -145,7 +145,8 @@ pub record HaveStepLevels (core : List CoreOp) (places : Places)
   pub leads : (i : ℕ) (op : CoreOp) (operation : Operation) → OpAt core i op operation
       → leads_away operation ≡ true → LevelsStay nestings i op.target
   pub ends : (i : ℕ) (op : CoreOp) → OpAt core i op End → EndsLevel nestings i op.target
-  pub shrinks : (i : ℕ) (op : CoreOp) → OpAt core i op Shrink → LevelOpens nestings op.target i
+  pub shrinks : (i : ℕ) (op : CoreOp) → OpAt core i op Shrink
+      → LevelOpens nestings op.target i × (last_fork nestings i ≡ None)
   pub opens : (i : ℕ) (op : CoreOp) (by : SplitKind) → OpAt core i op (Split by)
       → OpensLevel places nestings by i op.target (op.depth - taken_by by)
 
@@ -175,14 +176,21 @@ ListsHaveTheLaw =
 
 -- ---- the levels of a list
 
--- The levels that are told of a list.
-abbrev pub nestings_of : List Levels → (start : Gathering) → Nestings
-nestings_of saved start = record {
+-- The levels that are told of a list, and how each of them was left.
+abbrev pub nestings_of : List Levels → (forks : (index level : ℕ) → Option ℕ) → (start : Gathering)
+    → Nestings
+nestings_of saved forks start = record {
   levels = λ index. (levels_in saved index).count;
   behind = λ index. (levels_in saved index).behind;
   nest = λ index. (levels_in saved index).nest;
+  forks = forks;
   start = start;
 }
+
+-- What is told of the last level is so.
+abbrev pub TellsForks : List Levels → (forks : (index level : ℕ) → Option ℕ) → Type 0
+TellsForks saved forks =
+    (i : ℕ) → (levels_in saved i).fork ≡ forks i ((levels_in saved i).count - 1)
 
 -- No group splits in a list.
 abbrev pub is_parting : Operation → Bool
@@ -199,5 +207,5 @@ abbrev pub LevelsNeedNoRoom : Type 0
 LevelsNeedNoRoom =
     (core : List CoreOp) (places : Places) (start : Gathering) (main : ℕ)
     → Suits core places.frames main → HasNoParts core
-    → HaveLevels core places (nestings_of [] start)
-    × HaveStepLevels core places (nestings_of [] start)
+    → HaveLevels core places (nestings_of [] (λ index level. None) start)
+    × HaveStepLevels core places (nestings_of [] (λ index level. None) start)

@@ -18,8 +18,8 @@ use Rattle.fk_gen.specs.Lines.{copy_label, clear_label, label_of}
 use Rattle.fk_gen_access.specs.Heap.{heap_label, heap_lines}
 use Rattle.fk_gen_flow.specs.Calls.{chain_lines, copy_lines, clear_lines, most_privates}
 use Rattle.fk_gen_group.specs.Blocks.{start_label, start_lines}
-use Rattle.fk_gen_group.specs.Splits.{one_part_label, two_parts_label, one_part_lines}
-use Rattle.fk_gen_group.specs.Splits.{two_parts_lines}
+use Rattle.fk_gen_group.specs.Splits.{one_part_label, two_parts_label, fork_label}
+use Rattle.fk_gen_group.specs.Splits.{one_part_lines, two_parts_lines, fork_lines}
 
 -- How many words there are up to the last one in a set, of those below `most`.
 unfoldable pub up_to_last : (mask most : ℕ) → ℕ
@@ -129,8 +129,12 @@ AddsOnePart old new = AddsLabelled one_part_label one_part_lines old new
 abbrev pub AddsTwoParts : (old new : Assembly) → Type 0
 AddsTwoParts old new = AddsLabelled two_parts_label two_parts_lines old new
 
+abbrev pub AddsFork : (old new : Assembly) → Type 0
+AddsFork old new = AddsLabelled fork_label fork_lines old new
+
 -- The lines before the code of `start`, those before the code of `shmalloc`, those before the code
--- of splits into one part and into two, those before the blocks, and all lines of the code.
+-- of splits into one part, into two and by a `fork`, those before the blocks, and all lines of the
+-- code.
 abbrev pub calls_front : (opening : List MarkedLine) → List MarkedLine
 calls_front opening = (opening ++ copying_lines) ++ clearing_lines
 
@@ -143,8 +147,11 @@ heap_front opening globals = start_front opening globals ++ heap_lines globals
 abbrev pub part_front : (opening : List MarkedLine) → (globals : ℕ) → List MarkedLine
 part_front opening globals = heap_front opening globals ++ one_part_lines
 
+abbrev pub fork_front : (opening : List MarkedLine) → (globals : ℕ) → List MarkedLine
+fork_front opening globals = part_front opening globals ++ two_parts_lines
+
 abbrev pub front : (opening : List MarkedLine) → (globals : ℕ) → List MarkedLine
-front opening globals = part_front opening globals ++ two_parts_lines
+front opening globals = fork_front opening globals ++ fork_lines
 
 abbrev pub all_lines : (Placed → List MarkedLine) → (opening : List MarkedLine) → (globals : ℕ)
     → List Placed → List MarkedLine
@@ -158,6 +165,7 @@ pub record IsSpare (label : ℕ) : Type 0 where
   pub no_heap : label ≡ heap_label → ⊥
   pub no_part : label ≡ one_part_label → ⊥
   pub no_parts : label ≡ two_parts_label → ⊥
+  pub no_fork : label ≡ fork_label → ⊥
   pub no_clear : (n : ℕ) → n ≤ most_privates → label ≡ clear_label n → ⊥
 
 -- An assembler with all of the code.
@@ -176,6 +184,8 @@ pub record IsLaid (block : Placed → List MarkedLine) (opening : List MarkedLin
       ≡ Some (length (heap_front opening globals))
   pub halves : slice_index_or a.bound two_parts_label None
       ≡ Some (length (part_front opening globals))
+  pub forks : slice_index_or a.bound fork_label None
+      ≡ Some (length (fork_front opening globals))
   pub spare : (label : ℕ) → IsSpare label → slice_index_or a.bound label None ≡ None
   pub labels : (i : ℕ) → i < length ops
       → slice_index_or a.bound (label_of i) None

@@ -1,5 +1,5 @@
 -- The whole law.
-use Rattle.std.specs.Prelude.{◌≡◌, ℕ, List, length}
+use Rattle.std.specs.Prelude.{◌≡◌, ℕ, List, length, Option}
 use Rattle.fk_core.specs.declared.op.CoreOp.{CoreOp}
 use Rattle.fk_image.specs.declared.Image.{Image}
 use Rattle.fk_asm.specs.declared.code.Code.{Code}
@@ -14,7 +14,7 @@ use Rattle.fk_sim_block.specs.Law.{GroupLaw}
 use Rattle.fk_gen_group.specs.Start.{gathering_of}
 use Rattle.fk_gen_list.specs.Cycles.{cycles_of}
 use Rattle.fk_gen_list.specs.Laws.{AreInRange, HasLoneCode, HasGroupCode, HaveLevels}
-use Rattle.fk_gen_list.specs.Laws.{HaveStepLevels, StepsHaveValues, nestings_of}
+use Rattle.fk_gen_list.specs.Laws.{HaveStepLevels, StepsHaveValues, TellsForks, nestings_of}
 
 -- The image has all the code of a list.
 pub record HasAllCode (core : List CoreOp) (kept : List Set) (saved : List Levels)
@@ -46,12 +46,12 @@ pub record HaveAllLevels (core : List CoreOp) (places : Places) (nestings : Nest
 abbrev pub CodeHasTheLaw : Type 0
 CodeHasTheLaw =
     (core : List CoreOp) (kept : List Set) (saved : List Levels) (image : Image) (bound : ℕ → ℕ)
-    (places : Places) (firsts : List ℕ) (main : ℕ)
+    (places : Places) (firsts : List ℕ) (main : ℕ) (forks : (index level : ℕ) → Option ℕ)
     → Suits core places.frames main → AreKept places.frames kept → AreInRange core image
-    → StepsHaveValues core → AreFirsts places.frames.of_file firsts
-    → HaveAllLevels core places (nestings_of saved (gathering_of core bound)) main
+    → StepsHaveValues core → AreFirsts places.frames.of_file firsts → TellsForks saved forks
+    → HaveAllLevels core places (nestings_of saved forks (gathering_of core bound)) main
     → HasAllCode core kept saved image bound places firsts main
-    → GroupLaw core image places (nestings_of saved (gathering_of core bound))
+    → GroupLaw core image places (nestings_of saved forks (gathering_of core bound))
     (cycles_of core (length image.globals.items) kept saved) firsts main
 
 -- Each image with this code has the law of blocks of groups, in all frames that suit the list, keep
@@ -62,9 +62,9 @@ abbrev pub GivesGroupLaw : (core : List CoreOp) (kept : List Set) (saved : List 
 GivesGroupLaw core kept saved main firsts globals code =
     (image : Image) (frames : Frames) → HasCode code globals image → Suits core frames main
     → AreKept frames kept → frames.of_file ≡ length firsts
-    → StepsHaveValues core
+    → StepsHaveValues core → (forks : (index level : ℕ) → Option ℕ) → TellsForks saved forks
     → ((block : (index : ℕ) → ℕ) (start : Gathering)
-    → HaveAllLevels core (places_in core block frames) (nestings_of saved start) main)
+    → HaveAllLevels core (places_in core block frames) (nestings_of saved forks start) main)
     → (block : (index : ℕ) → ℕ) × (start : Gathering)
-    × GroupLaw core image (places_in core block frames) (nestings_of saved start)
+    × GroupLaw core image (places_in core block frames) (nestings_of saved forks start)
     (cycles_of core globals kept saved) firsts main

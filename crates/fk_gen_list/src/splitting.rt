@@ -7,8 +7,9 @@ ghost use Rattle.fk_gen_group.specs.Splits.{one_part_label, two_parts_label, for
 ghost use Rattle.fk_gen_list.specs.Layout.{AddsOnePart, AddsTwoParts, AddsFork};
 
 use fk_asm::Assembler;
-use fk_gen_group::{FORK_LABEL, ONE_PART_LABEL, TWO_PARTS_LABEL};
-use fk_gen_group::{emit_fork, emit_one_part, emit_two_parts};
+use fk_gen_group::{
+    FORK_LABEL, ONE_PART_LABEL, TWO_PARTS_LABEL, emit_fork, emit_one_part, emit_two_parts,
+};
 use std::alloc::AllocError;
 
 /// Adds the code that all splits into one part share, with its label.

@@ -20,4 +20,4 @@ returns-clause-raised c =
 pub returns-clause-found : goal.returns-clause-found
 returns-clause-found c is =
     let same : c.levels_at-old.result.behind ≡ behind_in c.args.saved.now c.args.index = ap (λ (l : Levels). l.behind) c.levels_at-old.ensures in
-    raised_fewer c.args.saved.now c.args.index c.args.words c.levels_at-old.result.count c.levels_at-old.result.nest c.requires.inside (omega (arith, same, c.if-old-words.false)) c.requires.few
+    raised_fewer c.args.saved.now c.args.index c.args.words c.levels_at-old.result.count c.levels_at-old.result.nest c.levels_at-old.result.fork c.requires.inside (omega (arith, same, c.if-old-words.false)) c.requires.few

@@ -1,6 +1,6 @@
 use Rattle.std.proofs.Common.{◌^◌, ◌<◌, ◌≤◌, length, arith, rules}
 use Rattle.fk_gen_list.proofs.Done.{all_have}
-use Rattle.fk_gen_list.proofs.Steps.{short_list, room_for_copying, followed, room_for_clearing, labels_copied, free_copied, room_for_starting, labels_cleared, free_cleared, room_for_hiring, labels_started, free_started, room_for_parting, labels_hiring, free_hiring, room_for_halving, labels_parting, free_parting, enough_labels, blocks_made, room_for_blocks, labels_free, all_laid}
+use Rattle.fk_gen_list.proofs.Steps.{short_list, room_for_copying, followed, room_for_clearing, labels_copied, free_copied, room_for_starting, labels_cleared, free_cleared, room_for_hiring, labels_started, free_started, room_for_parting, labels_hiring, free_hiring, room_for_halving, labels_parting, free_parting, enough_labels, blocks_made, room_for_blocks, labels_free, all_laid, room_for_forking, labels_halving, free_halving}
 use Rattle.fk_gen_list.proofs.code.lay.Goals as goal
 
 pub overflow_cast-ops : goal.overflow_cast-ops
@@ -136,26 +136,48 @@ emit_halving-requires-clause-free c =
     c.emit_copying.new.into c.in_ok-emit_copying.ensures.added c.emit_clearing.new.into c.in_ok-emit_clearing.ensures.added c.emit_starting.new.into c.in_ok-emit_starting.ensures.added
     c.emit_hiring.new.into c.in_ok-emit_hiring.ensures.added c.emit_parting.new.into c.in_ok-emit_parting.ensures.added
 
+pub emit_forking-requires-clause-room : goal.emit_forking-requires-clause-room
+emit_forking-requires-clause-room c =
+    room_for_forking c.args.ops.now c.args.kept.now c.args.saved.now c.args.main c.args.firsts.now c.args.globals c.requires.list c.requires.small
+    c.make_labels.new.into c.emit_opening.new.into c.in_ok-make_labels.ensures.made c.in_ok-emit_opening.ensures.added
+    c.emit_copying.new.into c.in_ok-emit_copying.ensures.added c.emit_clearing.new.into c.in_ok-emit_clearing.ensures.added c.emit_starting.new.into c.in_ok-emit_starting.ensures.added
+    c.emit_hiring.new.into c.in_ok-emit_hiring.ensures.added c.emit_parting.new.into c.in_ok-emit_parting.ensures.added c.emit_halving.new.into c.in_ok-emit_halving.ensures.added
+
+pub emit_forking-requires-clause-made : goal.emit_forking-requires-clause-made
+emit_forking-requires-clause-made c =
+    let count = labels_halving c.args.ops.now c.args.kept.now c.args.saved.now c.args.main c.args.firsts.now c.args.globals c.requires.list c.requires.small
+    c.make_labels.new.into c.emit_opening.new.into c.in_ok-make_labels.ensures.made c.in_ok-emit_opening.ensures.added
+    c.emit_copying.new.into c.in_ok-emit_copying.ensures.added c.emit_clearing.new.into c.in_ok-emit_clearing.ensures.added c.emit_starting.new.into c.in_ok-emit_starting.ensures.added
+    c.emit_hiring.new.into c.in_ok-emit_hiring.ensures.added c.emit_parting.new.into c.in_ok-emit_parting.ensures.added c.emit_halving.new.into c.in_ok-emit_halving.ensures.added in
+    omega (arith, count)
+
+pub emit_forking-requires-clause-free : goal.emit_forking-requires-clause-free
+emit_forking-requires-clause-free c =
+    free_halving c.args.ops.now c.args.kept.now c.args.saved.now c.args.main c.args.firsts.now c.args.globals c.requires.list c.requires.small
+    c.make_labels.new.into c.emit_opening.new.into c.in_ok-make_labels.ensures.made c.in_ok-emit_opening.ensures.added
+    c.emit_copying.new.into c.in_ok-emit_copying.ensures.added c.emit_clearing.new.into c.in_ok-emit_clearing.ensures.added c.emit_starting.new.into c.in_ok-emit_starting.ensures.added
+    c.emit_hiring.new.into c.in_ok-emit_hiring.ensures.added c.emit_parting.new.into c.in_ok-emit_parting.ensures.added c.emit_halving.new.into c.in_ok-emit_halving.ensures.added
+
 pub emit_blocks-requires-clause-goes : goal.emit_blocks-requires-clause-goes
 emit_blocks-requires-clause-goes c =
     blocks_made c.args.ops.now c.args.kept.now c.args.saved.now c.args.main c.args.firsts.now c.args.globals c.requires.list c.requires.small
     c.make_labels.new.into c.emit_opening.new.into c.in_ok-make_labels.ensures.made c.in_ok-emit_opening.ensures.added
     c.emit_copying.new.into c.in_ok-emit_copying.ensures.added c.emit_clearing.new.into c.in_ok-emit_clearing.ensures.added c.emit_starting.new.into c.in_ok-emit_starting.ensures.added
-    c.emit_hiring.new.into c.in_ok-emit_hiring.ensures.added c.emit_parting.new.into c.in_ok-emit_parting.ensures.added c.emit_halving.new.into c.in_ok-emit_halving.ensures.added
+    c.emit_hiring.new.into c.in_ok-emit_hiring.ensures.added c.emit_parting.new.into c.in_ok-emit_parting.ensures.added c.emit_halving.new.into c.in_ok-emit_halving.ensures.added c.emit_forking.new.into c.in_ok-emit_forking.ensures.added
 
 pub emit_blocks-requires-clause-room : goal.emit_blocks-requires-clause-room
 emit_blocks-requires-clause-room c =
     room_for_blocks c.args.ops.now c.args.kept.now c.args.saved.now c.args.main c.args.firsts.now c.args.globals c.requires.list c.requires.small
     c.make_labels.new.into c.emit_opening.new.into c.in_ok-make_labels.ensures.made c.in_ok-emit_opening.ensures.added
     c.emit_copying.new.into c.in_ok-emit_copying.ensures.added c.emit_clearing.new.into c.in_ok-emit_clearing.ensures.added c.emit_starting.new.into c.in_ok-emit_starting.ensures.added
-    c.emit_hiring.new.into c.in_ok-emit_hiring.ensures.added c.emit_parting.new.into c.in_ok-emit_parting.ensures.added c.emit_halving.new.into c.in_ok-emit_halving.ensures.added
+    c.emit_hiring.new.into c.in_ok-emit_hiring.ensures.added c.emit_parting.new.into c.in_ok-emit_parting.ensures.added c.emit_halving.new.into c.in_ok-emit_halving.ensures.added c.emit_forking.new.into c.in_ok-emit_forking.ensures.added
 
 pub emit_blocks-requires-clause-made : goal.emit_blocks-requires-clause-made
 emit_blocks-requires-clause-made c =
     enough_labels c.args.ops.now c.args.kept.now c.args.saved.now c.args.main c.args.firsts.now c.args.globals c.requires.list c.requires.small
     c.make_labels.new.into c.emit_opening.new.into c.in_ok-make_labels.ensures.made c.in_ok-emit_opening.ensures.added
     c.emit_copying.new.into c.in_ok-emit_copying.ensures.added c.emit_clearing.new.into c.in_ok-emit_clearing.ensures.added c.emit_starting.new.into c.in_ok-emit_starting.ensures.added
-    c.emit_hiring.new.into c.in_ok-emit_hiring.ensures.added c.emit_parting.new.into c.in_ok-emit_parting.ensures.added c.emit_halving.new.into c.in_ok-emit_halving.ensures.added
+    c.emit_hiring.new.into c.in_ok-emit_hiring.ensures.added c.emit_parting.new.into c.in_ok-emit_parting.ensures.added c.emit_halving.new.into c.in_ok-emit_halving.ensures.added c.emit_forking.new.into c.in_ok-emit_forking.ensures.added
 
 pub emit_blocks-requires-clause-few : goal.emit_blocks-requires-clause-few
 emit_blocks-requires-clause-few c =
@@ -167,11 +189,11 @@ emit_blocks-requires-clause-free c =
     labels_free c.args.ops.now c.args.kept.now c.args.saved.now c.args.main c.args.firsts.now c.args.globals c.requires.list c.requires.small
     c.make_labels.new.into c.emit_opening.new.into c.in_ok-make_labels.ensures.made c.in_ok-emit_opening.ensures.added
     c.emit_copying.new.into c.in_ok-emit_copying.ensures.added c.emit_clearing.new.into c.in_ok-emit_clearing.ensures.added c.emit_starting.new.into c.in_ok-emit_starting.ensures.added
-    c.emit_hiring.new.into c.in_ok-emit_hiring.ensures.added c.emit_parting.new.into c.in_ok-emit_parting.ensures.added c.emit_halving.new.into c.in_ok-emit_halving.ensures.added
+    c.emit_hiring.new.into c.in_ok-emit_hiring.ensures.added c.emit_parting.new.into c.in_ok-emit_parting.ensures.added c.emit_halving.new.into c.in_ok-emit_halving.ensures.added c.emit_forking.new.into c.in_ok-emit_forking.ensures.added
 
 pub returns-clause-laid : goal.returns-clause-laid
 returns-clause-laid c =
     all_laid c.args.ops.now c.args.kept.now c.args.saved.now c.args.main c.args.firsts.now c.args.globals c.requires.list c.requires.small
     c.make_labels.new.into c.emit_opening.new.into c.in_ok-make_labels.ensures.made c.in_ok-emit_opening.ensures.added
     c.emit_copying.new.into c.in_ok-emit_copying.ensures.added c.emit_clearing.new.into c.in_ok-emit_clearing.ensures.added c.emit_starting.new.into c.in_ok-emit_starting.ensures.added
-    c.emit_hiring.new.into c.in_ok-emit_hiring.ensures.added c.emit_parting.new.into c.in_ok-emit_parting.ensures.added c.emit_halving.new.into c.in_ok-emit_halving.ensures.added c.emit_blocks.new.into c.in_ok-emit_blocks.ensures.added
+    c.emit_hiring.new.into c.in_ok-emit_hiring.ensures.added c.emit_parting.new.into c.in_ok-emit_parting.ensures.added c.emit_halving.new.into c.in_ok-emit_halving.ensures.added c.emit_forking.new.into c.in_ok-emit_forking.ensures.added c.emit_blocks.new.into c.in_ok-emit_blocks.ensures.added

@@ -1,0 +1,69 @@
+-- What is told of the last level is how that level was left.
+use Rattle.std.proofs.Common.{◌≡◌, ℕ, zero, suc, ◌+◌, ◌-◌, Bool, true, false, List, [], ◌∷◌, length, map, slice_get, Option, Some, None, ap, sym, ◌∙◌, refl, arith, eq-eqb}
+use Rattle.std.specs.Prelude.{◌==◌, if◌then◌else◌}
+use Rattle.fk_meaning_operation.specs.declared.operation.Operation.{Operation}
+use Rattle.fk_meaning_operation.specs.declared.operation.Operation.TheVariants.{Split, Resume, Frame, Begin, End}
+use Rattle.fk_core.specs.declared.op.CoreOp.{CoreOp}
+use Rattle.fk_gen.specs.declared.placed.Levels.{Levels}
+use Rattle.fk_gen.specs.Levels.{levels_in, told_levels}
+use Rattle.fk_core_levels.specs.Count.{read, here, after, opens, counts_from}
+use Rattle.fk_core_levels.specs.Forks.{OpenPart, Parts, no_part, closed, come_to, fork_of, fork_at, fork_in, taken, leave, open_from, open_parts, level_forks}
+use Rattle.fk_core_levels.specs.Levels.{AreLevels}
+
+-- as many parts are open as are counted
+closed_many : (open : List OpenPart) → length (closed open).open ≡ length open - 1
+closed_many [] = omega arith
+closed_many (part ∷ open) = omega arith
+
+come_many : (o : Option Operation) (open : Parts) → length (come_to o open).open ≡ here (length open.open) o
+come_many (Some Resume) open = closed_many open.open
+come_many o open = refl
+
+taken_many : (number words : ℕ) (open : Parts) → (taken number words open).open ≡ open.open
+taken_many zero words open = refl
+taken_many (suc number) words open = refl
+
+leave_many : (o : Option Operation) (open : Parts) → length (leave o open).open ≡ after (length open.open) o
+leave_many (Some (Split by)) open = refl
+leave_many (Some (Frame number words)) open = ap length (taken_many number words open)
+leave_many (Some Begin) open = refl
+leave_many (Some End) open = refl
+leave_many o open = refl
+
+none_open : (opening : Bool) (open : List OpenPart) → length (if opening then [] else open) ≡ (if opening then 0 else length open)
+none_open true open = refl
+none_open false open = refl
+
+open_many : (open : Parts) (opening : Bool) (ops : List CoreOp) → map (λ (o : List OpenPart). length o) (open_from open opening ops) ≡ counts_from (length open.open) opening ops
+open_many open opening [] = refl
+open_many open opening (op ∷ ops) =
+    let there = come_to (read op) open in
+    let many : length there.open ≡ here (length open.open) (read op) = come_many (read op) open in
+    let left : length (leave (read op) there).open ≡ after (here (length open.open) (read op)) (read op) = leave_many (read op) there ∙ ap (λ n. after n (read op)) many in
+    let rest = map (λ (o : List OpenPart). length o) (open_from (leave (read op) there) (opens opening op) ops) in
+    ap (λ n. n ∷ rest) (none_open opening there.open ∙ ap (λ n. if opening then 0 else n) many)
+    ∙ ap (λ ns. (if opening then 0 else here (length open.open) (read op)) ∷ ns)
+    (open_many (leave (read op) there) (opens opening op) ops ∙ ap (λ n. counts_from n (opens opening op) ops) left)
+
+-- the innermost part has the highest number
+last_fork : (open : List OpenPart) → fork_of open ≡ fork_at open (length open - 1)
+last_fork [] = refl
+last_fork (part ∷ open) =
+    let same : length open ≡ length (part ∷ open) - 1 = omega arith in
+    sym (ap (λ b. if b then part.fork else fork_at open (length (part ∷ open) - 1)) (eq-eqb (length open) (length (part ∷ open) - 1) same))
+
+-- at each index
+told_at : (saved : List Levels) (stacks : List (List OpenPart)) → map (λ (l : Levels). l.count) saved ≡ map (λ (o : List OpenPart). length o) stacks
+    → map (λ (l : Levels). l.fork) saved ≡ map fork_of stacks → (i : ℕ)
+    → (levels_in saved i).fork ≡ fork_in (slice_get stacks i) ((levels_in saved i).count - 1)
+told_at [] [] counts forks i = refl
+told_at [] (o ∷ stacks) counts forks i = absurd (cc)
+told_at (l ∷ saved) [] counts forks i = absurd (cc)
+told_at (l ∷ saved) (o ∷ stacks) counts forks zero =
+    let count : l.count ≡ length o = cc in
+    let fork : l.fork ≡ fork_of o = cc in
+    fork ∙ last_fork o ∙ ap (λ n. fork_at o (n - 1)) (sym count)
+told_at (l ∷ saved) (o ∷ stacks) counts forks (suc i) = told_at saved stacks (cc) (cc) i
+
+pub levels_tell_forks : (core : List CoreOp) (saved : List Levels) → AreLevels core saved → (i : ℕ) → (levels_in saved i).fork ≡ level_forks core i ((levels_in saved i).count - 1)
+levels_tell_forks core saved are i = told_at saved (open_parts core) (are.count ∙ sym (open_many no_part false core)) are.fork i
