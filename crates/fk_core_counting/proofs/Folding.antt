@@ -8,7 +8,7 @@ use Rattle.fk_core.specs.declared.op.CoreOp.{CoreOp}
 use Rattle.fk_core.specs.Numbers.{operation_of}
 use Rattle.fk_core.specs.Next.{is_jump}
 use Rattle.fk_core_levels.specs.Count.{read, here, after, inside, enters, opens, counts_from, nests_from}
-use Rattle.fk_core_levels.specs.Forks.{OpenParts, no_part, come_to, leave, open_from}
+use Rattle.fk_core_levels.specs.Forks.{Parts as OpenParts, no_part, come_to, leave, open_from}
 
 -- how many levels are open, how many parts with the group of `start` among them, and how groups were left
 pub record Parts : Type 0 where
