@@ -17,19 +17,19 @@ pub record OpenPart : Type 0 where
   pub words : ℕ
 
 -- The open parts at an operation, the innermost first, and how many words its frame has.
-pub record OpenParts : Type 0 where
+pub record Parts : Type 0 where
   pub open : List OpenPart
   pub words : ℕ
 
-abbrev pub no_part : OpenParts
+abbrev pub no_part : Parts
 no_part = record { open = []; words = 0 }
 
 -- At a resume the parts before it have ended.
-abbrev pub closed : List OpenPart → OpenParts
+abbrev pub closed : List OpenPart → Parts
 closed [] = no_part
 closed (part ∷ open) = record { open = open; words = part.words }
 
-abbrev pub come_to : Option Operation → OpenParts → OpenParts
+abbrev pub come_to : Option Operation → Parts → Parts
 come_to (Some Resume) parts = closed parts.open
 come_to operation parts = parts
 
@@ -47,19 +47,19 @@ abbrev pub left_by : SplitKind → (words : ℕ) → Option ℕ
 left_by Fork words = Some words
 left_by by words = None
 
-abbrev pub opened : SplitKind → OpenParts → OpenParts
+abbrev pub opened : SplitKind → Parts → Parts
 opened by parts = record {
     open = record { fork = left_by by parts.words; words = parts.words } ∷ parts.open;
     words = 0;
   }
 
 -- A frame of number 0 is the function's own, and in no part.
-abbrev pub taken : (number words : ℕ) → OpenParts → OpenParts
+abbrev pub taken : (number words : ℕ) → Parts → Parts
 taken zero words parts = parts
 taken (suc number) words parts = record parts { words = words }
 
 -- A split opens a part without a frame, and the next part begins after the end of another.
-abbrev pub leave : Option Operation → OpenParts → OpenParts
+abbrev pub leave : Option Operation → Parts → Parts
 leave (Some (Split by)) parts = opened by parts
 leave (Some (Frame number words)) parts = taken number words parts
 leave (Some Begin) parts = record parts { words = 0 }
@@ -67,7 +67,7 @@ leave (Some End) parts = record parts { words = 0 }
 leave operation parts = parts
 
 -- In the opening of a call no part is open.
-abbrev pub open_from : OpenParts → (opening : Bool) → List CoreOp → List (List OpenPart)
+abbrev pub open_from : Parts → (opening : Bool) → List CoreOp → List (List OpenPart)
 open_from parts opening [] = []
 open_from parts opening (op ∷ ops) =
     let there = come_to (read op) parts in
