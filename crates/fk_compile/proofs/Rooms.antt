@@ -18,6 +18,7 @@ use Rattle.fk_core.specs.Numbers.{operation_of}
 use Rattle.fk_core.specs.Next.{is_jump, behind_jump, follows}
 use Rattle.fk_core_levels.specs.Count.{read, counts}
 use Rattle.fk_core_levels.specs.Behind.{up_to, named, leads_by, leads, goes_on_by, goes_on}
+use Rattle.fk_core_levels.specs.Forks.{level_forks}
 use Rattle.fk_core_levels.specs.Levels.{behind_in, AreLevels}
 use Rattle.fk_core_liveness.specs.declared.set.Set.{Set}
 use Rattle.fk_core_liveness.specs.declared.places.FunctionKind.TheVariants.{Main}
@@ -232,7 +233,7 @@ module _ (core : List CoreOp) (main firsts : ℕ) (kept : List Set) (begins : ma
 
   module _ (start : Gathering) where
     abbrev nestings : Nestings
-    nestings = nestings_of saved start
+    nestings = nestings_of saved (level_forks core) start
 
     -- ---- levels where the call goes on
 
