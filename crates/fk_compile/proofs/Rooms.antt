@@ -498,9 +498,9 @@ module _ (core : List CoreOp) (main firsts : ℕ) (kept : List Set) (begins : ma
           let out = end_level (places i) (is_main_place (places i).function) (places i).nests f.may.0 in
           let some = shrinks i op at.stands at.is_read (level i) (held.rooms.counted i here) in (
             closes_there i op.target false here (within_on i op o.Shrink at refl false) (leads_is i op o.Shrink at false) (out.1 some ∙ ap suc (sym (ap rooms.levels_in (f.goes_on false).place)))
-            (back_forks i op.target (f.goes_on false).place f.may.0),
+                (back_forks i op.target (f.goes_on false).place f.may.0),
             ap (λ n. level_forks core i (n - 1)) (count_is i here) ∙ held.rooms.forked i (level i - 1) here (omega (arith, some))
-            ∙ last_no_fork (is_main_place (places i).function) (places i).nests (level i - 1) f.may.0 f.may.1 (omega (arith, some)),
+                ∙ last_no_fork (is_main_place (places i).function) (places i).nests (level i - 1) f.may.0 f.may.1 (omega (arith, some)),
           )
 
       -- where a part begins there is room for its level
@@ -525,7 +525,7 @@ module _ (core : List CoreOp) (main firsts : ℕ) (kept : List Set) (begins : ma
           let goes = (fit i op (o.Split sk.IfElse) at).goes_on false in
           let there = within_on i op (o.Split sk.IfElse) at refl false in (
             opens_there i op.target false (lt i op (o.Split sk.IfElse) at) there (leads_is i op (o.Split sk.IfElse) at false) (ap rooms.levels_in goes.place ∙ parted i op sk.IfElse at)
-            (λ n less. ap (λ p. rooms.forks_in p n) goes.place ∙ parted_forks i sk.IfElse n less),
+                (λ n less. ap (λ p. rooms.forks_in p n) goes.place ∙ parted_forks i sk.IfElse n less),
             room_in i op sk.IfElse at false op.target values refl there few,
           )
       aside i op sk.IfAlone at values few = waits_there i op sk.IfAlone at refl

@@ -183,8 +183,7 @@ module _ (tables : Tables) (functions : (binding : ℕ) → Signature) (may_call
         let part = choose spot.place (o.Split sk.IfElse) (part_frame tables functions spot 0 (x (plain o.End done))) (part_frame tables functions spot 1 (y (plain o.End done))) (plain o.Resume rest) in
         let branch = choose nowhere (o.Branch true) (x done) (y done) rest in
         gives (is_group who) condition h.1 (if here.splits then part else agreed here.sync branch)
-        (either here.splits part (agreed here.sync branch)
-        (
+        (either here.splits part (agreed here.sync branch) (
           begins_part (frame_at tables spot.at 0) spot.place (x (plain o.End done)) (statement main (inner who) inside first h.2 (plain o.End done) ((λ e. e), tt)),
           begins_part (frame_at tables spot.at 1) spot.place (y (plain o.End done)) (statement main (inner who) inside second h.3 (plain o.End done) ((λ e. e), tt)),
           ((λ e. e), q),
@@ -220,11 +219,12 @@ module _ (tables : Tables) (functions : (binding : ℕ) → Signature) (may_call
         let run = part_frame tables functions spot 0 (executed tables functions inside body (plain o.End done)) in
         let divided' = choose spot.place (o.Split sk.Fork) run done (plain o.Resume rest) in
         let ranked = value_or tables functions (plain (o.Get own.Rank)) rank divided' in
-        gives (is_group who) parts h.1 (plain o.Agree (value tables functions part ranked))
-        ((λ e. e),
-        gives (is_group who) part h.2 ranked
-        (gives_or (is_group who) (plain (o.Get own.Rank)) (λ rest' q'. ((λ e. e), q')) rank h.3 divided'
-        (begins_part (frame_at tables spot.at 0) spot.place (executed tables functions inside body (plain o.End done)) (statement main OfGroup inside body h.4 (plain o.End done) ((λ e. e), tt)), tt, ((λ e. e), q))))
+        gives (is_group who) parts h.1 (plain o.Agree (value tables functions part ranked)) (
+          (λ e. e),
+          gives (is_group who) part h.2 ranked
+              (gives_or (is_group who) (plain (o.Get own.Rank)) (λ rest' q'. ((λ e. e), q')) rank h.3 divided'
+              (begins_part (frame_at tables spot.at 0) spot.place (executed tables functions inside body (plain o.End done)) (statement main OfGroup inside body h.4 (plain o.End done) ((λ e. e), tt)), tt, ((λ e. e), q))),
+        )
     statement main who inside (p.Farm spot body) h rest q = (statement main OfBody inside body h.1 done tt, tt, ((λ e. e), q))
     statement main who inside (p.Seq spot body) h rest q = (statement main OfBody inside body h.1 done tt, tt, ((λ e. e), q))
     statement main who inside (p.Barrier spot) h rest q = ((λ e. e), q)
