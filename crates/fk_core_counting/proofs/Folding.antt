@@ -30,7 +30,7 @@ past op k = parts (after k.levels op) (inside k.around op) (leave op k.forks)
 
 -- with so many words in the frame of the innermost part
 abbrev pub worded : (words : ℕ) → Parts → Parts
-worded words k = parts k.levels k.around (record { open = k.forks.open; words = words })
+worded words k = parts k.levels k.around (record { parts = k.forks.parts; words = words })
 
 -- these, and whether the opening of a call is written
 pub record Fold : Type 0 where
@@ -68,7 +68,7 @@ around_if : (b : Bool) (k : Parts) → (if b then none else k).around ≡ (if b 
 around_if true k = refl
 around_if false k = refl
 
-open_if : (b : Bool) (k : Parts) → (if b then none else k).forks.open ≡ (if b then [] else k.forks.open)
+open_if : (b : Bool) (k : Parts) → (if b then none else k).forks.parts ≡ (if b then [] else k.forks.parts)
 open_if true k = refl
 open_if false k = refl
 
@@ -82,7 +82,7 @@ nested k b [] i lt = absurd (let z : ⊥ = omega arith in z)
 nested k b (op ∷ ops) zero lt = ap Some (sym (around_if b (at (read op) k)))
 nested k b (op ∷ ops) (suc i) lt = nested (past (read op) (at (read op) k)) (opens b op) ops i (omega (arith, lt))
 
-pub opened : (k : Parts) (b : Bool) (ops : List CoreOp) (i : ℕ) → i < length ops → slice_get (open_from k.forks b ops) i ≡ Some (told_by (slice_get ops i) (folded k b ops i)).forks.open
+pub opened : (k : Parts) (b : Bool) (ops : List CoreOp) (i : ℕ) → i < length ops → slice_get (open_from k.forks b ops) i ≡ Some (told_by (slice_get ops i) (folded k b ops i)).forks.parts
 opened k b [] i lt = absurd (let z : ⊥ = omega arith in z)
 opened k b (op ∷ ops) zero lt = ap Some (sym (open_if b (at (read op) k)))
 opened k b (op ∷ ops) (suc i) lt = opened (past (read op) (at (read op) k)) (opens b op) ops i (omega (arith, lt))

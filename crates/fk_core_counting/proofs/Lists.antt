@@ -129,8 +129,8 @@ module _ (bodies : (binding : ℕ) → Code ℕ) (core : List CoreOp) (entry : �
   pub parts_told : (i : ℕ) → i < length core → slice_get (nests core) i ≡ Some (nesting (place (there i)).nests)
   parts_told i lt = nested none false core i lt ∙ ap (λ (k : Parts). Some k.around) (tells i lt).0
 
-  pub forks_told : (i level : ℕ) → i < length core → level_forks core i level ≡ fork_at (forks_at (place (there i))).open level
-  forks_told i level lt = ap (λ x. fork_in x level) (opened none false core i lt) ∙ ap (λ (k : Parts). fork_at k.forks.open level) (tells i lt).0
+  pub forks_told : (i level : ℕ) → i < length core → level_forks core i level ≡ fork_at (forks_at (place (there i))).parts level
+  forks_told i level lt = ap (λ x. fork_in x level) (opened none false core i lt) ∙ ap (λ (k : Parts). fork_at k.forks.parts level) (tells i lt).0
 
   pub says_at : (i : ℕ) (op : CoreOp) (operation : Operation) → slice_get core i ≡ Some op → read op ≡ Some operation → Says operation (place (there i))
   says_at i op operation at is = (tells i (slice_get_within core i op at)).1 op operation at is
@@ -195,7 +195,7 @@ typed_lists_tell_levels bodies core entry place_of frame_of may_call typed shape
         parts_told bodies core entry place_of frame_of typed may_call shapes run (values place_of frame_of) (values_lawful place_of frame_of)
         (all_judged bodies core entry place_of frame_of typed) (bare (entered Main)) place_in (values_keep place_of frame_of) i lt
 
-    forks : (i level : ℕ) → i < length core → level_forks core i level ≡ fork_at (forks_at (there i).place).open level
+    forks : (i level : ℕ) → i < length core → level_forks core i level ≡ fork_at (forks_at (there i).place).parts level
     forks i level lt =
         forks_told bodies core entry place_of frame_of typed may_call shapes run (values place_of frame_of) (values_lawful place_of frame_of)
         (all_judged bodies core entry place_of frame_of typed) (bare (entered Main)) place_in (values_keep place_of frame_of) i level lt

@@ -325,8 +325,8 @@ module _ (core : List CoreOp) (entry : ℕ → ℕ) (may_call : (in_group : Bool
       let op = o.Split sk.IfElse in
       let n' = past (Some op) n in
       let two =
-          more (stand_at who (place (sys.behind op false s)) (place_behind op false (place s)) n' (keeps.behind op false s) a)
-          (g.1 ∙ ap (λ words. fold (worded words n') false) (g.2 refl)) in
+      more (stand_at who (place (sys.behind op false s)) (place_behind op false (place s)) n' (keeps.behind op false s) a)
+      (g.1 ∙ ap (λ words. fold (worded words n') false) (g.2 refl)) in
       (two.0, (worded two.1.0 n', two.1.1, fits))
   second_way (o.Split sk.IfElse) y after' l s u t r n who only chosen (inr a) empty fits g more = untrue a
   second_way (o.Split by) y after' l s u t r n who only chosen either empty fits g more =
@@ -385,9 +385,9 @@ module _ (core : List CoreOp) (entry : ℕ → ℕ) (may_call : (in_group : Bool
       let none_taken : part ≡ false → takes_in_part op ≡ true → ⊥ = λ no takes. true≢false (sym (heads (frames.0 takes)) ∙ no) in
       let both = performed op rest near c l s e t.1 i k n who part x (Ended part in_split n) shaped.0 shape.2 h.1 (keeps.may op s t.0) stand onward
       (λ straight shape' stand' j there g.
-          let deep' : in_split ≡ true → 1 ≤ n'.levels = λ is. subst (λ (y : Parts). 1 ≤ y.levels) (sym (straight_worded op n 0 straight)) (deep is) in
-          let more = walk rest near c l r e j k n' n' who false in_loop part false x in_split false shaped.1 shape' placed.1 t.1 there shrinks frames.1 (λ is. untrue is) deep' stand' refl g in
-          (more.0, ended_with part in_split n' n (j + extent near rest) (λ no. after_straight op n straight (none_taken no)) (λ words. straight_worded op n words straight) more.1))
+      let deep' : in_split ≡ true → 1 ≤ n'.levels = λ is. subst (λ (y : Parts). 1 ≤ y.levels) (sym (straight_worded op n 0 straight)) (deep is) in
+      let more = walk rest near c l r e j k n' n' who false in_loop part false x in_split false shaped.1 shape' placed.1 t.1 there shrinks frames.1 (λ is. untrue is) deep' stand' refl g in
+      (more.0, ended_with part in_split n' n (j + extent near rest) (λ no. after_straight op n straight (none_taken no)) (λ words. straight_worded op n words straight) more.1))
       (λ onto is. ended_part part in_split n (suc i) is (onward ∙ ap (λ z. fold z false) (after_onto op n onto))) in
       let far : i + suc (gap here' + extent near rest) ≡ suc i + (gap here' + extent near rest) = omega arith in (
         ((act_told i site m op (aim (way_of op) k) h.0 f ∙ mine ∙ sym stand.is, act_says i site op (aim (way_of op) k) s h.0 (says_performed op (place s) ways')), both.0),

@@ -38,7 +38,7 @@ open_in main (OfFunction frame ∷ nests) = []
 open_in main (OfPart numbered frame ∷ nests) = open_by (levels_of main (OfPart numbered frame ∷ nests)) (around_by numbered nests) (open_in main nests)
 
 abbrev pub forks_at : Place → OpenParts
-forks_at p = record { open = open_in (is_main_place p.function) p.nests; words = words_in_part p.nests }
+forks_at p = record { parts = open_in (is_main_place p.function) p.nests; words = words_in_part p.nests }
 
 abbrev pub parts_at : Place → Parts
 parts_at p = parts (levels_at p) (nesting p.nests) (forks_at p)
@@ -226,11 +226,11 @@ module _ (p : Place) (k : Parts) where
   parted : (by : SplitKind) (numbered : Bool) → left_by_fork numbered p.nests ≡ left_by by (words_in_part p.nests) → Stand OfGroup p k
       → Stand OfGroup (record p { nests = OfPart numbered None ∷ p.nests }) (past (Some (o.Split by)) k)
   parted by numbered left h = record {
-    is = ap (λ n. parts n (suc (nesting p.nests)) (record { open = open_by n (around_by numbered p.nests) (open_in (is_main_place p.function) p.nests); words = 0 }))
+    is = ap (λ n. parts n (suc (nesting p.nests)) (record { parts = open_by n (around_by numbered p.nests) (open_in (is_main_place p.function) p.nests); words = 0 }))
         (deeper numbered (is_main_place p.function) (ap (λ (x : Parts). x.levels) h.is) (h.within refl))
         ∙ ap (λ (f : Option ℕ). parts (suc k.levels) (suc (nesting p.nests))
-        (record { open = record { fork = f; words = words_in_part p.nests } ∷ open_in (is_main_place p.function) p.nests; words = 0 })) left
-        ∙ ap (λ (x : Parts). parts (suc k.levels) (suc x.around) (record { open = record { fork = left_by by x.forks.words; words = x.forks.words } ∷ x.forks.open; words = 0 })) h.is;
+        (record { parts = record { fork = f; words = words_in_part p.nests } ∷ open_in (is_main_place p.function) p.nests; words = 0 })) left
+        ∙ ap (λ (x : Parts). parts (suc k.levels) (suc x.around) (record { parts = record { fork = left_by by x.forks.words; words = x.forks.words } ∷ x.forks.parts; words = 0 })) h.is;
     within = λ e f. omega arith;
   }
 

@@ -18,30 +18,30 @@ pub record OpenPart : Type 0 where
 
 -- The open parts at an operation, the innermost first, and how many words its frame has.
 pub record Parts : Type 0 where
-  pub open : List OpenPart
+  pub parts : List OpenPart
   pub words : ℕ
 
 abbrev pub no_part : Parts
-no_part = record { open = []; words = 0 }
+no_part = record { parts = []; words = 0 }
 
 -- At a resume the parts before it have ended.
 abbrev pub closed : List OpenPart → Parts
 closed [] = no_part
-closed (part ∷ open) = record { open = open; words = part.words }
+closed (part ∷ held) = record { parts = held; words = part.words }
 
 abbrev pub come_to : Option Operation → Parts → Parts
-come_to (Some Resume) parts = closed parts.open
+come_to (Some Resume) parts = closed parts.parts
 come_to operation parts = parts
 
 -- How the group around the innermost part was left.
 abbrev pub fork_of : List OpenPart → Option ℕ
 fork_of [] = None
-fork_of (part ∷ open) = part.fork
+fork_of (part ∷ held) = part.fork
 
 -- How the group at a level was left. Level 0 is the outermost.
 abbrev pub fork_at : List OpenPart → (level : ℕ) → Option ℕ
 fork_at [] level = None
-fork_at (part ∷ open) level = if length open == level then part.fork else fork_at open level
+fork_at (part ∷ held) level = if length held == level then part.fork else fork_at held level
 
 abbrev pub left_by : SplitKind → (words : ℕ) → Option ℕ
 left_by Fork words = Some words
@@ -49,9 +49,9 @@ left_by by words = None
 
 abbrev pub opened : SplitKind → Parts → Parts
 opened by parts = record {
-    open = record { fork = left_by by parts.words; words = parts.words } ∷ parts.open;
-    words = 0;
-  }
+  parts = record { fork = left_by by parts.words; words = parts.words } ∷ parts.parts;
+  words = 0;
+}
 
 -- A frame of number 0 is the function's own, and in no part.
 abbrev pub taken : (number words : ℕ) → Parts → Parts
@@ -71,7 +71,7 @@ abbrev pub open_from : Parts → (opening : Bool) → List CoreOp → List (List
 open_from parts opening [] = []
 open_from parts opening (op ∷ ops) =
     let there = come_to (read op) parts in
-    (if opening then [] else there.open)
+    (if opening then [] else there.parts)
     ∷ open_from (leave (read op) there) (opens opening op) ops
 
 abbrev pub open_parts : List CoreOp → List (List OpenPart)
@@ -83,7 +83,7 @@ forks ops = map fork_of (open_parts ops)
 
 abbrev pub fork_in : Option (List OpenPart) → (level : ℕ) → Option ℕ
 fork_in None level = None
-fork_in (Some open) level = fork_at open level
+fork_in (Some held) level = fork_at held level
 
 -- At an index, how the group at a level was left.
 abbrev pub level_forks : List CoreOp → (index level : ℕ) → Option ℕ
