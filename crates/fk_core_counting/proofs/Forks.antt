@@ -17,11 +17,11 @@ fewer false deep n e m f = omega (arith, e, f)
 long : (main : Bool) (nests : List Nest) → length (open_in main nests) ≡ levels_of main nests
 long main [] = no_level main
 long main (OfFunction frame ∷ nests) = no_level main
-long main (OfPart numbered frame ∷ nests) = by (levels_of main (OfPart numbered frame ∷ nests)) refl
+long main (OfPart numbered frame ∷ nests) = by (long main nests) (levels_of main (OfPart numbered frame ∷ nests)) refl
   where
-    by : (n : ℕ) → n ≡ levels_of main (OfPart numbered frame ∷ nests) → length (open_by n (around_by numbered nests) (open_in main nests)) ≡ n
-    by zero e = refl
-    by (suc n) e = ap suc (long main nests ∙ sym (fewer main (nesting nests) (suc n) e n refl))
+    by : length (open_in main nests) ≡ levels_of main nests → (n : ℕ) → n ≡ levels_of main (OfPart numbered frame ∷ nests) → length (open_by n (around_by numbered nests) (open_in main nests)) ≡ n
+    by rest zero e = refl
+    by rest (suc n) e = ap suc (rest ∙ sym (fewer main (nesting nests) (suc n) e n refl))
 
 -- at the level of the innermost part, and further out
 chosen : {A : Type 0} (n level : ℕ) (x y z : A) → (level < n → y ≡ z) → level < suc n → (if n == level then x else y) ≡ (if level == n then x else z)
@@ -38,13 +38,13 @@ chosen n level x y z further lt = by (cases_lt level n)
 pub told_forks : (main : Bool) (nests : List Nest) (level : ℕ) → level < levels_of main nests → fork_at (open_in main nests) level ≡ forks_of main nests level
 told_forks main [] level lt = refl
 told_forks main (OfFunction frame ∷ nests) level lt = refl
-told_forks main (OfPart numbered frame ∷ nests) level lt = by (levels_of main (OfPart numbered frame ∷ nests)) refl lt
+told_forks main (OfPart numbered frame ∷ nests) level lt = by (told_forks main nests level) (levels_of main (OfPart numbered frame ∷ nests)) refl lt
   where
-    by : (n : ℕ) → n ≡ levels_of main (OfPart numbered frame ∷ nests) → level < n
+    by : (level < levels_of main nests → fork_at (open_in main nests) level ≡ forks_of main nests level) → (n : ℕ) → n ≡ levels_of main (OfPart numbered frame ∷ nests) → level < n
         → fork_at (open_by n (around_by numbered nests) (open_in main nests)) level ≡ (if suc level == n then left_by_fork numbered nests else forks_of main nests level)
-    by zero e less = absurd (let z : ⊥ = omega (arith, less) in z)
-    by (suc n) e less =
+    by out zero e less = absurd (let z : ⊥ = omega (arith, less) in z)
+    by out (suc n) e less =
         let many = fewer main (nesting nests) (suc n) e n refl in
         ap (λ m. if m == level then left_by_fork numbered nests else fork_at (open_in main nests) level) (long main nests ∙ sym many)
         ∙ chosen n level (left_by_fork numbered nests) (fork_at (open_in main nests) level) (forks_of main nests level)
-        (λ further. told_forks main nests level (let l : level < levels_of main nests = omega (arith, further, many) in l)) less
+        (λ further. out (let l : level < levels_of main nests = omega (arith, further, many) in l)) less

@@ -55,10 +55,10 @@ shrink_is op e = untrue e
 
 test_shrinks : (code : Code ℕ) (shrinking closing b : Bool) → shrinking ≡ true → Shape false closing (of_test shrinking) code → ShrinksIn b code → b ≡ true
 test_shrinks done shrinking closing b e shape h = absurd (true≢false shape.2)
-test_shrinks (perform t op rest) shrinking closing b e shape h = test_shrinks rest shrinking false b e (in_either (ends_part op) _ _ shape.2) h
+test_shrinks (perform t op rest) shrinking closing b e shape h = test_shrinks rest shrinking false b e (in_either (ends_part op) (((of_test shrinking).tests ≡ false) × (rest ≡ done)) (Shape false false (of_test shrinking) rest) shape.2) h
 test_shrinks (choose t op x y rest) shrinking closing b e shape h = test_shrinks rest shrinking (opens_body op) b e shape.6 h.2
-test_shrinks (while test body last rest) shrinking closing b e shape h = test_shrinks rest shrinking false b e (in_either shape.1 _ _ shape.5) h.3
-test_shrinks (until body test rest) shrinking closing b e shape h = test_shrinks rest shrinking false b e (in_either shape.1 _ _ shape.4) h.2
+test_shrinks (while test body last rest) shrinking closing b e shape h = test_shrinks rest shrinking false b e (in_either shape.1 (((of_test shrinking).tests ≡ false) × (rest ≡ done)) (Shape false false (of_test shrinking) rest) shape.5) h.3
+test_shrinks (until body test rest) shrinking closing b e shape h = test_shrinks rest shrinking false b e (in_either shape.1 (((of_test shrinking).tests ≡ false) × (rest ≡ done)) (Shape false false (of_test shrinking) rest) shape.4) h.2
 test_shrinks (turn test body last rest) shrinking closing b e shape h = absurd shape
 test_shrinks (again test body last rest) shrinking closing b e shape h = absurd shape
 test_shrinks (quit t op rest) shrinking closing b e shape h = h.0 (shrink_is op (shape.4 ∙ e))
@@ -119,8 +119,8 @@ module _ (core : List CoreOp) (entry : ℕ → ℕ) (may_call : (in_group : Bool
   ended_with true only n' n r same with' h = (h.0, h.1 ∙ ap (λ z. fold z false) (with' h.0), h.2)
   ended_with false only n' n r same with' h = h ∙ ap (λ z. fold z false) (same refl)
 
-  to : (E : ℕ → Type 0) (i r : ℕ) → r ≡ i → E i → E r
-  to E i r e h = subst E (sym e) h
+  moved_to : (E : ℕ → Type 0) (i r : ℕ) → r ≡ i → E i → E r
+  moved_to E i r e h = subst E (sym e) h
 
   -- ---- one item
 
@@ -221,7 +221,7 @@ module _ (core : List CoreOp) (entry : ℕ → ℕ) (may_call : (in_group : Bool
 
   counted_done : (code : Code ℕ) → is_done code ≡ true → (near : Bool) (l : Option (Loop sys)) (s e : sys.State) (t : Judged sys l s code e) (i : ℕ) (E : ℕ → Type 0) → E i → Counted near l s code e t i E
   counted_done code is near l s e t i E f =
-      by_done (λ x. (t' : Judged sys l s x e) → Counted near l s x e t' i E) code is (λ t'. (tt, to E i (i + 0) (omega arith) f)) t
+      by_done (λ x. (t' : Judged sys l s x e) → Counted near l s x e t' i E) code is (λ t'. (tt, moved_to E i (i + 0) (omega arith) f)) t
 
   -- code behind an operation, after a jump to it if that is somewhere else
   abbrev Goes : (rest : Code ℕ) (near : Bool) (c : Around) (l : Option (Loop sys)) (s e : sys.State) → Judged sys l s rest e → (k : ℕ) (n : Parts) (E : ℕ → Type 0) → Type 0
@@ -239,7 +239,7 @@ module _ (core : List CoreOp) (entry : ℕ → ℕ) (may_call : (in_group : Bool
       let others = more r (has_back core j r (skip b target) (flat entry near c r k rest) to h) first.1 in
       let far : j + (gap b + extent near rest) ≡ r + extent near rest = omega arith in (
         right_both j r (skip_mark b s) (marks sys near l s rest e t) (ap (λ x. j + x) (sym (skip_length b s))) first.0 others.0,
-        to E (r + extent near rest) (j + (gap b + extent near rest)) far others.1,
+        moved_to E (r + extent near rest) (j + (gap b + extent near rest)) far others.1,
       )
 
   not_into : (op : Operation) → (way_of op ≡ w.straight) ⊎ (way_of op ≡ w.onto) → way_of op ≡ w.into → ⊥
@@ -300,10 +300,10 @@ module _ (core : List CoreOp) (entry : ℕ → ℕ) (may_call : (in_group : Bool
   performed op rest near c l s e t i k n who part x E (inr a) either h may stand g more end =
       let r = sys.behind op true s in
       let b : (goes_away (way_of op) || begins_here near rest) ≡ true = ap (λ z. goes_away z || begins_here near rest) a.0 in
-      let others = counted_done rest a.1 near l r e t (suc i) E (end a.0 (part_ends op _ _ a.0 either).0) in
+      let others = counted_done rest a.1 near l r e t (suc i) E (end a.0 (part_ends op ((part ≡ true) × (x.tests ≡ false) × (rest ≡ done)) (Shape part false x rest) a.0 either).0) in
       let far : suc i + (0 + extent near rest) ≡ suc i + extent near rest = omega arith in (
         subst (λ z. AreRight (suc i) (skip_mark z r ++ marks sys near l r rest e t)) (sym b) others.0,
-        subst (λ z. E (suc i + (gap z + extent near rest))) (sym b) (to E (suc i + extent near rest) (suc i + (0 + extent near rest)) far others.1),
+        subst (λ z. E (suc i + (gap z + extent near rest))) (sym b) (moved_to E (suc i + extent near rest) (suc i + (0 + extent near rest)) far others.1),
       )
 
   -- the second way of a choice, and what is open behind it
@@ -373,7 +373,7 @@ module _ (core : List CoreOp) (entry : ℕ → ℕ) (may_call : (in_group : Bool
       → ShrinksIn in_split code → FramesIn first code → (first ≡ true → part ≡ true) → (in_split ≡ true → 1 ≤ n.levels) → Stands who s n → Enters resuming m n → Behind i m
       → Counted near l s code e t i (Ended part in_split n)
   walk done near c l s e i k m n who resuming in_loop part closing x in_split first shaped shape placed t h shrinks frames heads deep stand fits f =
-      (tt, to (Ended part in_split n) i (i + 0) (omega arith) (ended_no_part part in_split n i shape.1 (f ∙ ap (λ z. fold z false) (not_resuming resuming m n placed fits))))
+      (tt, moved_to (Ended part in_split n) i (i + 0) (omega arith) (ended_no_part part in_split n i shape.1 (f ∙ ap (λ z. fold z false) (not_resuming resuming m n placed fits))))
   walk (perform site op rest) near c l s e i k m n who resuming in_loop part closing x in_split first shaped shape placed t h shrinks frames heads deep stand fits f =
       let here' = goes_away (way_of op) || begins_here near rest in
       let r = sys.behind op true s in
@@ -382,16 +382,16 @@ module _ (core : List CoreOp) (entry : ℕ → ℕ) (may_call : (in_group : Bool
       let n' = past (Some op) n in
       let onward : Behind (suc i) n' = act_goes i site m false op (aim (way_of op) k) h.0 f ∙ ap (λ z. fold (past (Some op) z) (enters false (Some op))) mine
       ∙ ap (fold n') (no_enter op false (not_into op ways')) in
-      let none_taken : part ≡ false → takes_in_part op ≡ true → ⊥ = λ no takes. true≢false (sym (heads (frames.0 takes)) ∙ no) in
+      let none_taken : part ≡ false → takes_in_part op ≡ true → ⊥ = λ free takes. true≢false (sym (heads (frames.0 takes)) ∙ free) in
       let both = performed op rest near c l s e t.1 i k n who part x (Ended part in_split n) shaped.0 shape.2 h.1 (keeps.may op s t.0) stand onward
       (λ straight shape' stand' j there g.
       let deep' : in_split ≡ true → 1 ≤ n'.levels = λ is. subst (λ (y : Parts). 1 ≤ y.levels) (sym (straight_worded op n 0 straight)) (deep is) in
       let more = walk rest near c l r e j k n' n' who false in_loop part false x in_split false shaped.1 shape' placed.1 t.1 there shrinks frames.1 (λ is. untrue is) deep' stand' refl g in
-      (more.0, ended_with part in_split n' n (j + extent near rest) (λ no. after_straight op n straight (none_taken no)) (λ words. straight_worded op n words straight) more.1))
+      (more.0, ended_with part in_split n' n (j + extent near rest) (λ free. after_straight op n straight (none_taken free)) (λ words. straight_worded op n words straight) more.1))
       (λ onto is. ended_part part in_split n (suc i) is (onward ∙ ap (λ z. fold z false) (after_onto op n onto))) in
       let far : i + suc (gap here' + extent near rest) ≡ suc i + (gap here' + extent near rest) = omega arith in (
         ((act_told i site m op (aim (way_of op) k) h.0 f ∙ mine ∙ sym stand.is, act_says i site op (aim (way_of op) k) s h.0 (says_performed op (place s) ways')), both.0),
-        to (Ended part in_split n) (suc i + (gap here' + extent near rest)) (i + suc (gap here' + extent near rest)) far both.1,
+        moved_to (Ended part in_split n) (suc i + (gap here' + extent near rest)) (i + suc (gap here' + extent near rest)) far both.1,
       )
   walk (choose site op x' y rest) near c l s e i k m n who resuming in_loop part closing x in_split first shaped shape placed t h shrinks frames heads deep stand fits f =
       let q = choice_at entry x' y rest near c i k in
@@ -430,7 +430,7 @@ module _ (core : List CoreOp) (entry : ℕ → ℕ) (may_call : (in_group : Bool
           right_both (suc i) q.behind ((js ++ xs) ++ ys) zs (omega arith)
               (right_both (suc i) q.second (js ++ xs) ys (omega arith) (right_both (suc i) q.first js xs (omega arith) before.0 firsts.0) seconds.0) others.0,
         ),
-        to (Ended part in_split n) (q.behind + extent near rest) (i + suc (gap q.here + extent q.beside x' + extent q.after y + extent near rest)) far others.1,
+        moved_to (Ended part in_split n) (q.behind + extent near rest) (i + suc (gap q.here + extent q.beside x' + extent q.after y + extent near rest)) far others.1,
       )
   walk (while test body last rest) near c l s e i k m n who resuming in_loop part closing x in_split first shaped shape placed t h shrinks frames heads deep stand fits f =
       let q = turns_at entry test body last rest near c i k in
@@ -457,7 +457,7 @@ module _ (core : List CoreOp) (entry : ℕ → ℕ) (may_call : (in_group : Bool
       let far : i + (extent q.enters test + extent q.steps body + extent false last + extent near rest) ≡ q.behind + extent near rest = omega arith in (
         right_both i q.behind ((ts ++ bs) ++ ss) rs (omega arith)
             (right_both i q.step (ts ++ bs) ss (omega arith) (right_both i q.body ts bs (omega arith) tests.0 bodies.0) lasts.0) others.0,
-        to (Ended part in_split n) (q.behind + extent near rest) (i + (extent q.enters test + extent q.steps body + extent false last + extent near rest)) far others.1,
+        moved_to (Ended part in_split n) (q.behind + extent near rest) (i + (extent q.enters test + extent q.steps body + extent false last + extent near rest)) far others.1,
       )
   walk (until body test rest) near c l s e i k m n who resuming in_loop part closing x in_split first shaped shape placed t h shrinks frames heads deep stand fits f =
       let q = rounds_at entry body test rest near c i k in
@@ -479,7 +479,7 @@ module _ (core : List CoreOp) (entry : ℕ → ℕ) (may_call : (in_group : Bool
       (λ shape' there. walk rest near c l round.left e q.behind k n n who false in_loop part false x in_split false shaped.3 shape' placed.3 t.4 has.others shrinks.2 frames.2 (λ is. untrue is) deep there refl tests.1) in
       let far : i + (extent true body + extent false test + extent near rest) ≡ q.behind + extent near rest = omega arith in (
         right_both i q.behind (bs ++ ts) rs (omega arith) (right_both i q.test bs ts (omega arith) bodies.0 tests.0) others.0,
-        to (Ended part in_split n) (q.behind + extent near rest) (i + (extent true body + extent false test + extent near rest)) far others.1,
+        moved_to (Ended part in_split n) (q.behind + extent near rest) (i + (extent true body + extent false test + extent near rest)) far others.1,
       )
   walk (turn a b d rest) near c l s e i k m n who resuming in_loop part closing x in_split first shaped shape placed t h shrinks frames heads deep stand fits f = absurd shape
   walk (again a b d rest) near c l s e i k m n who resuming in_loop part closing x in_split first shaped shape placed t h shrinks frames heads deep stand fits f = absurd shape
@@ -494,7 +494,7 @@ module _ (core : List CoreOp) (entry : ℕ → ℕ) (may_call : (in_group : Bool
       (λ j there g. counted_done rest (ap is_done shape.5) near l r e t.2 j (Ended part in_split n) (ended_no_part part in_split n j shape.2 g)) in
       let far : i + suc (gap b + extent near rest) ≡ suc i + (gap b + extent near rest) = omega arith in (
         ((act_told i site m op (behind c) h.0 f ∙ mine ∙ sym stand.is, act_says i site op (behind c) s h.0 (says_quit who op (place s) n shape.1 (λ is. deep (shrinks.0 is)) stand)), both.0),
-        to (Ended part in_split n) (suc i + (gap b + extent near rest)) (i + suc (gap b + extent near rest)) far both.1,
+        moved_to (Ended part in_split n) (suc i + (gap b + extent near rest)) (i + suc (gap b + extent near rest)) far both.1,
       )
   walk (break rest) near c l s e i k m n who resuming in_loop part closing x in_split first shaped shape placed t h shrinks frames heads deep stand fits f =
       walk rest near c l s e i k n n who false in_loop part false x in_split false shaped.1 shape.2 placed.1 t.1 h shrinks frames (λ is. untrue is) deep stand refl (f ∙ ap (λ z. fold z false) (not_resuming resuming m n placed.0 fits))
@@ -531,7 +531,7 @@ module _ (core : List CoreOp) (entry : ℕ → ℕ) (may_call : (in_group : Bool
               (right_both (suc i) q.back os (en ∷ skip_mark q.here r) (omega arith) openings.0 ((opening_told q.back n (jump (entry function)) has.jumps.0 openings.1 ∙ sym inside'.is, jump_says q.back (entry function) en has.jumps.0), before.0))
               others.0,
         ),
-        to (Ended part in_split n) (q.behind + extent near rest) (i + suc (suc (extent true opening + gap q.here + extent near rest))) far others.1,
+        moved_to (Ended part in_split n) (q.behind + extent near rest) (i + suc (suc (extent true opening + gap q.here + extent near rest))) far others.1,
       )
   walk (ends site op rest) near c l s e i k m n who resuming in_loop part closing x in_split first shaped shape placed t h shrinks frames heads deep stand fits f =
       let r = sys.behind op true s in
@@ -544,5 +544,5 @@ module _ (core : List CoreOp) (entry : ℕ → ℕ) (may_call : (in_group : Bool
       let others = walk rest near c l r e (suc i) k n n who false in_loop part false x in_split false shaped.1 shape.3 placed.2 t.2 h.1 shrinks frames (λ is. untrue is) deep stand' refl onward in
       let far : i + suc (extent near rest) ≡ suc i + extent near rest = omega arith in (
         ((act_told i site m op 0 h.0 f ∙ mine ∙ sym stand.is, act_says i site op 0 s h.0 (says_out op (place s) shaped.0)), others.0),
-        to (Ended part in_split n) (suc i + extent near rest) (i + suc (extent near rest)) far others.1,
+        moved_to (Ended part in_split n) (suc i + extent near rest) (i + suc (extent near rest)) far others.1,
       )

@@ -151,12 +151,12 @@ resume_of op e = untrue e
 
 -- only a frame of a part changes what is open
 pub after_straight : (op : Operation) (k : Parts) → way_of op ≡ w.straight → (takes_in_part op ≡ true → ⊥) → past (Some op) k ≡ k
-after_straight (o.Split by) k e no = absurd (cc)
-after_straight o.Begin k e no = absurd (cc)
-after_straight o.End k e no = absurd (cc)
-after_straight (o.Frame zero words) k e no = refl
-after_straight (o.Frame (suc number) words) k e no = absurd (no refl)
-after_straight op k e no = refl
+after_straight (o.Split by) k e free = absurd (cc)
+after_straight o.Begin k e free = absurd (cc)
+after_straight o.End k e free = absurd (cc)
+after_straight (o.Frame zero words) k e free = refl
+after_straight (o.Frame (suc number) words) k e free = absurd (free refl)
+after_straight op k e free = refl
 
 -- outside of parts there is no such frame
 pub outside_parts : (op : Operation) (p : Place) → MayBeIn op p → nesting p.nests ≡ 0 → takes_in_part op ≡ true → ⊥
