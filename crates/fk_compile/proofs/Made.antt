@@ -29,6 +29,8 @@ use Rattle.fk_gen_list.specs.Laws.{nestings_of}
 use Rattle.fk_gen_list.specs.Whole.{GivesGroupLaw}
 use Rattle.fk_compile.specs.PlainLists.{StepsFindValues}
 use Rattle.fk_sim_runs.specs.Follow.{CarriesTrees}
+use Rattle.fk_core_levels.specs.Forks.{level_forks}
+use Rattle.fk_core_levels.proofs.Lasts.{levels_tell_forks}
 use Rattle.fk_core_levels.specs.Levels.{AreLevels}
 use Rattle.fk_core_liveness.specs.declared.set.Set.{Set}
 use Rattle.fk_core_liveness.specs.Live.{IsLeast, words_in}
@@ -113,9 +115,9 @@ module _ (program : ProgramTree) (facts : Facts) (layout : Layout) (laid : IsLay
       }
 
       given : StepsFindValues → (block : (index : ℕ) → ℕ) × (start : Gathering)
-          × GroupLaw core image (places_in core block p.held.frames) (nestings_of saved start) (cycles_of core (vec_len layout.words) kept saved) layout.firsts.items main
+          × GroupLaw core image (places_in core block p.held.frames) (nestings_of saved (level_forks core) start) (cycles_of core (vec_len layout.words) kept saved) layout.firsts.items main
       given values =
-          p.law image p.held.frames has p.held.suits p.held.keeps p.held.of_file (values core p.grouped.can.enough)
+          p.law image p.held.frames has p.held.suits p.held.keeps p.held.of_file (values core p.grouped.can.enough) (level_forks core) (levels_tell_forks core saved p.levels)
           (λ block start. all_levels core main (length layout.firsts.items) kept p.grouped.can.steady.within.begins p.grouped.can.steady.within.leads p.held p.least saved p.levels
           (shrinks_deep core main p.grouped.can.nests) (parts_deep core main p.grouped.can.nests) start block)
 
@@ -123,12 +125,12 @@ module _ (program : ProgramTree) (facts : Facts) (layout : Layout) (laid : IsLay
       is_compiled values = let law = given values in record {
         list = p.list;
         places = places_in core law.0 p.held.frames;
-        nestings = nestings_of saved law.1;
+        nestings = nestings_of saved (level_forks core) law.1;
         cycles = cycles_of core (vec_len layout.words) kept saved;
         carries =
             subst
             (λ (firsts : List ℕ).
-            CarriesTrees core main firsts (places_in core law.0 p.held.frames) (nestings_of saved law.1) (cycles_of core (vec_len layout.words) kept saved) image)
+            CarriesTrees core main firsts (places_in core law.0 p.held.frames) (nestings_of saved (level_forks core) law.1) (cycles_of core (vec_len layout.words) kept saved) image)
             laid.firsts
             (record {
               tree = p.grouped.tree saved p.levels law.1;

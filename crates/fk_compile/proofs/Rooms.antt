@@ -1,7 +1,7 @@
 -- The levels that are found for a list have room in its frames, and go with its operations.
 use Rattle.std.proofs.Common.{◌≡◌, ◌⊎◌, ℕ, zero, suc, ◌+◌, ◌-◌, ◌*◌, ◌<◌, ◌≤◌, Bool, true, false, List, [], ◌∷◌, length, map, slice_get, Option, Some, None, inl, inr, refl, sym, ap, ◌∙◌, subst, arith}
-use Rattle.std.specs.Prelude.{◌==◌, ◌&&◌, not, nat_lt, if◌then◌else◌}
-use Rattle.std.proofs.lemmas.Bool.{ltb-true, lt-ltb, eqb-true, and_parts}
+use Rattle.std.specs.Prelude.{◌==◌, ◌&&◌, ◌||◌, not, nat_lt, if◌then◌else◌}
+use Rattle.std.proofs.lemmas.Bool.{ltb-true, lt-ltb, eqb-true, eq-eqb, ne_eqb, and_parts}
 use Rattle.std.proofs.lemmas.List.Elements.{All-head}
 use Rattle.std.proofs.lemmas.Option.{slice_get_within}
 use Rattle.fk_meaning_operation.specs.declared.operation.Operation.{Operation}
@@ -19,6 +19,7 @@ use Rattle.fk_core.specs.Next.{is_jump, behind_jump, follows}
 use Rattle.fk_core_levels.specs.Count.{read, counts}
 use Rattle.fk_core_levels.specs.Count as counting
 use Rattle.fk_core_levels.specs.Behind.{up_to, named, leads_by, leads, goes_on_by, goes_on}
+use Rattle.fk_core_levels.specs.Forks.{level_forks}
 use Rattle.fk_core_levels.specs.Levels.{behind_in, AreLevels}
 use Rattle.fk_core_liveness.specs.declared.set.Set.{Set}
 use Rattle.fk_core_liveness.specs.declared.places.FunctionKind.TheVariants.{Main}
@@ -26,14 +27,14 @@ use Rattle.fk_core_liveness.specs.Frames.{is_main_place}
 use Rattle.fk_core_liveness.specs.Live.{reads, kept_behind, asked_by, asked_of, IsLive, IsLeast, words_in}
 use Rattle.fk_core_liveness.proofs.Asked.{split_or}
 use Rattle.fk_core_typing.specs.Laws.{LeadsWithin}
-use Rattle.fk_core_typing.specs.Values.{Place, entered, place_behind}
-use Rattle.fk_lockstep_frames.specs.Nests.{Nest, OfFunction, OfPart, nesting, levels_of, take_frame, IsInPart}
+use Rattle.fk_core_typing.specs.Values.{Place, with_frame, entered, place_behind}
+use Rattle.fk_lockstep_frames.specs.Nests.{Nest, OfFunction, OfPart, nesting, levels_of, left_by_fork, forks_of, is_numbered, take_frame, IsInPart}
 use Rattle.fk_gen.specs.declared.placed.Levels.{Levels}
 use Rattle.fk_gen.specs.Levels.{levels_in}
 use Rattle.fk_gen.specs.Keeps.{peak}
 use Rattle.fk_gen_group.specs.Blocks.{is_group_step, HasLevelWords}
 use Rattle.fk_gen_group.specs.InNode.{LevelsFit}
-use Rattle.fk_gen_group.specs.Laws.{GoesOnWith, GoesAside}
+use Rattle.fk_gen_group.specs.Laws.{GoesOnWith, GoesAside, LeavesBy, last_fork}
 use Rattle.fk_gen_list.specs.Generable.{places_in}
 use Rattle.fk_gen_list.specs.Laws.{leads_away, nestings_of, EndsLevel, OpensLevel}
 use Rattle.fk_gen_list.specs.Whole.{HaveAllLevels}
@@ -66,6 +67,38 @@ module _ (p : Place) where
   end_level true (OfPart numbered frame ∷ nest ∷ nests) within = ((λ e. omega (arith, e)), (λ e. omega (arith, e)))
   end_level false (OfPart numbered frame ∷ nest ∷ nests) within = ((λ e. omega (arith, e)), (λ e. omega arith))
   end_level main nests within = absurd (assumption within)
+
+-- ---- how levels were left
+
+further_out : (main : Bool) (deep n : ℕ) → n < deep - (if main then 1 else 0) → suc n ≡ suc deep - (if main then 1 else 0) → ⊥
+further_out true deep n less e = omega (arith, less, e)
+further_out false deep n less e = omega (arith, less, e)
+
+-- a part changes nothing further out
+open_forks : (main numbered : Bool) (frame : Option ℕ) (nests : List Nest) (n : ℕ) → n < levels_of main nests → forks_of main (OfPart numbered frame ∷ nests) n ≡ forks_of main nests n
+open_forks main numbered frame nests n less =
+    ap (λ (b : Bool). if b then left_by_fork numbered nests else forks_of main nests n) (ne_eqb (suc n) (levels_of main (OfPart numbered frame ∷ nests)) (further_out main (nesting nests) n less))
+
+tail_forks : (main : Bool) (nests : List Nest) (n : ℕ) → IsInPart nests → n < levels_of main (tail nests) → forks_of main nests n ≡ forks_of main (tail nests) n
+tail_forks main (OfPart numbered frame ∷ nest ∷ nests) n within less = open_forks main numbered frame (nest ∷ nests) n less
+tail_forks main nests n within less = absurd (assumption within)
+
+-- nor does a frame
+frame_forks : (main : Bool) (words : ℕ) (nests : List Nest) (n : ℕ) → forks_of main (take_frame words nests) n ≡ forks_of main nests n
+frame_forks main words [] n = refl
+frame_forks main words (OfFunction frame ∷ nests) n = refl
+frame_forks main words (OfPart numbered frame ∷ nests) n = refl
+
+-- the innermost level
+last_of : (main numbered : Bool) (frame : Option ℕ) (nests : List Nest) (n : ℕ) → levels_of main (OfPart numbered frame ∷ nests) ≡ suc n
+    → forks_of main (OfPart numbered frame ∷ nests) n ≡ left_by_fork numbered nests
+last_of main numbered frame nests n e =
+    ap (λ (b : Bool). if b then left_by_fork numbered nests else forks_of main nests n) (eq-eqb (suc n) (levels_of main (OfPart numbered frame ∷ nests)) (sym e))
+
+last_no_fork : (main : Bool) (nests : List Nest) (n : ℕ) → IsInPart nests → is_numbered nests ≡ false → levels_of main nests ≡ suc n → forks_of main nests n ≡ None
+last_no_fork main (OfPart numbered frame ∷ nest ∷ nests) n within not_numbered e =
+    last_of main numbered frame (nest ∷ nests) n e ∙ ap (λ (b : Bool). left_by_fork b (nest ∷ nests)) not_numbered
+last_no_fork main nests n within not_numbered e = absurd (assumption within)
 
 pub told_count : (saved : List Levels) (i n : ℕ) → slice_get (map (λ (l : Levels). l.count) saved) i ≡ Some n → (levels_in saved i).count ≡ n
 told_count [] zero n e = absurd (cc)
@@ -269,18 +302,40 @@ module _ (core : List CoreOp) (main firsts : ℕ) (kept : List Set) (begins : ma
 
   module _ (start : Gathering) where
     abbrev nestings : Nestings
-    nestings = nestings_of saved start
+    nestings = nestings_of saved (level_forks core) start
 
     -- ---- levels where the call goes on
 
-    stays : (i j : ℕ) (onward : Bool) → i < length core → j < length core → leads core i onward ≡ j → level j ≡ level i → LevelsStay nestings i j
-    stays i j onward lt lt' e same = record { levels = count_is j lt' ∙ same ∙ sym (count_is i lt); behind = same_behind i j onward lt lt' e }
+    -- levels further out were left as they were
+    abbrev KeepsForks : (here there : Place) → Type 0
+    KeepsForks here there = (n : ℕ) → n < rooms.levels_in here → rooms.forks_in there n ≡ rooms.forks_in here n
 
-    opens_there : (i j : ℕ) (onward : Bool) → i < length core → j < length core → leads core i onward ≡ j → level j ≡ suc (level i) → LevelOpens nestings i j
-    opens_there i j onward lt lt' e more = record { levels = count_is j lt' ∙ more ∙ sym (ap suc (count_is i lt)); behind = same_behind i j onward lt lt' e }
+    forks_are : (i j : ℕ) → i < length core → j < length core → level i ≤ level j → KeepsForks (places i) (places j) → (n : ℕ) → n < nestings.levels i → nestings.forks j n ≡ nestings.forks i n
+    forks_are i j lt lt' most' keep n less =
+        let many = count_is i lt in
+        let l : n < level i = omega (arith, less, many) in
+        held.rooms.forked j n lt' (omega (arith, l, most')) ∙ keep n l ∙ sym (held.rooms.forked i n lt l)
 
-    closes_there : (i j : ℕ) (onward : Bool) → i < length core → j < length core → leads core i onward ≡ j → level i ≡ suc (level j) → LevelOpens nestings j i
-    closes_there i j onward lt lt' e more = record { levels = count_is i lt ∙ more ∙ sym (ap suc (count_is j lt')); behind = sym (same_behind i j onward lt lt' e) }
+    stays : (i j : ℕ) (onward : Bool) → i < length core → j < length core → leads core i onward ≡ j → level j ≡ level i → KeepsForks (places i) (places j) → LevelsStay nestings i j
+    stays i j onward lt lt' e same keep = record {
+      levels = count_is j lt' ∙ same ∙ sym (count_is i lt);
+      behind = same_behind i j onward lt lt' e;
+      forks = forks_are i j lt lt' (omega (arith, same)) keep;
+    }
+
+    opens_there : (i j : ℕ) (onward : Bool) → i < length core → j < length core → leads core i onward ≡ j → level j ≡ suc (level i) → KeepsForks (places i) (places j) → LevelOpens nestings i j
+    opens_there i j onward lt lt' e more keep = record {
+      levels = count_is j lt' ∙ more ∙ sym (ap suc (count_is i lt));
+      behind = same_behind i j onward lt lt' e;
+      forks = forks_are i j lt lt' (omega (arith, more)) keep;
+    }
+
+    closes_there : (i j : ℕ) (onward : Bool) → i < length core → j < length core → leads core i onward ≡ j → level i ≡ suc (level j) → KeepsForks (places j) (places i) → LevelOpens nestings j i
+    closes_there i j onward lt lt' e more keep = record {
+      levels = count_is i lt ∙ more ∙ sym (ap suc (count_is j lt'));
+      behind = sym (same_behind i j onward lt lt' e);
+      forks = forks_are j i lt' lt (omega (arith, more)) keep;
+    }
 
     room_at : (i values : ℕ) → i < length core → ahead frames (frames.is_main i) + 8 + words i + most i + 4 * level i ≤ 64 → values ≤ suc (most i) → HasLevelRoom frames nestings i values
     room_at i values lt room few = record {
@@ -302,8 +357,9 @@ module _ (core : List CoreOp) (main firsts : ℕ) (kept : List Set) (begins : ma
     -- ---- what processors do alone
 
     same_on : (i : ℕ) (op : CoreOp) (operation : Operation) (at : OpAt core i op operation) (onward : Bool) (j : ℕ) → leads core i onward ≡ j → j < length core
-        → (there : Place) → rooms.GoesTo core frames held.rooms.rooms there i j → rooms.levels_in there ≡ level i → LevelsStay nestings i j
-    same_on i op operation at onward j e lt' there goes same = stays i j onward (lt i op operation at) lt' e (ap rooms.levels_in goes.place ∙ same)
+        → (there : Place) → rooms.GoesTo core frames held.rooms.rooms there i j → rooms.levels_in there ≡ level i → KeepsForks (places i) there → LevelsStay nestings i j
+    same_on i op operation at onward j e lt' there goes same keep =
+        stays i j onward (lt i op operation at) lt' e (ap rooms.levels_in goes.place ∙ same) (λ n less. ap (λ p. rooms.forks_in p n) goes.place ∙ keep n less)
 
     within_on : (i : ℕ) (op : CoreOp) (operation : Operation) → OpAt core i op operation → is_end operation ≡ false → (onward : Bool) → (follows core operation i op.target [] onward).at < length core
     within_on i op operation at e onward = (within.within i op operation at.stands at.is_read e onward).at
@@ -340,7 +396,7 @@ module _ (core : List CoreOp) (main firsts : ℕ) (kept : List Set) (begins : ma
           let back = e.back in
           record {
             few = held.suits.few;
-            stay = same_on i op (o.Enter n) at true (behind_jump core (suc i)) (leads_is i op (o.Enter n) at true) there (places i) back refl;
+            stay = same_on i op (o.Enter n) at true (behind_jump core (suc i)) (leads_is i op (o.Enter n) at true) there (places i) back refl (λ n less. refl);
             room = room_at (behind_jump core (suc i)) (suc (op.depth - n)) there
                 (room_moved (ahead frames (frames.is_main i)) (words i) (most i) (level i) (ahead frames (frames.is_main (behind_jump core (suc i)))) (words (behind_jump core (suc i)))
                 (most (behind_jump core (suc i))) (level (behind_jump core (suc i))) (ap (ahead frames) calls.back.main) back.words back.most (ap rooms.levels_in back.place) f.room)
@@ -360,7 +416,7 @@ module _ (core : List CoreOp) (main firsts : ℕ) (kept : List Set) (begins : ma
                 subst (λ x. x < behind i) (sym same) (named_low k (behind i) small holds));
             stay = λ onward.
                 same_on i op (o.Set (v.Private k)) at onward (follows core (o.Set (v.Private k)) i op.target [] onward).at (leads_is i op (o.Set (v.Private k)) at onward)
-                (within_on i op (o.Set (v.Private k)) at refl onward) (places i) (f.goes_on onward) refl;
+                (within_on i op (o.Set (v.Private k)) at refl onward) (places i) (f.goes_on onward) refl (λ n less. refl);
             nest = nest_low i (lt i op (o.Set (v.Private k)) at);
           }
       alone_fit i op operation at alone =
@@ -371,7 +427,7 @@ module _ (core : List CoreOp) (main firsts : ℕ) (kept : List Set) (begins : ma
             apart = λ some word w. untrue w;
             stay = λ onward.
                 same_on i op operation at onward (follows core operation i op.target [] onward).at (leads_is i op operation at onward) (within_on i op operation at refl onward)
-                (places i) (f.goes_on onward) refl;
+                (places i) (f.goes_on onward) refl (λ n less. refl);
             nest = nest_low i (lt i op operation at);
           }
 
@@ -388,6 +444,42 @@ module _ (core : List CoreOp) (main firsts : ℕ) (kept : List Set) (begins : ma
       parted i op sk.Loop at = split_level (places i) (is_main_place (places i).function) false (places i).nests (fit i op (o.Split sk.Loop) at).grouped
       parted i op sk.Fork at = split_level (places i) (is_main_place (places i).function) true (places i).nests (fit i op (o.Split sk.Fork) at).grouped
 
+      parted_forks : (i : ℕ) (by : SplitKind) → KeepsForks (places i) (place_behind (o.Split by) true (places i))
+      parted_forks i sk.IfAlone n less = open_forks (is_main_place (places i).function) false None (places i).nests n less
+      parted_forks i sk.IfElse n less = open_forks (is_main_place (places i).function) false None (places i).nests n less
+      parted_forks i sk.AndThen n less = open_forks (is_main_place (places i).function) false None (places i).nests n less
+      parted_forks i sk.OrElse n less = open_forks (is_main_place (places i).function) false None (places i).nests n less
+      parted_forks i sk.Loop n less = open_forks (is_main_place (places i).function) false None (places i).nests n less
+      parted_forks i sk.Fork n less = open_forks (is_main_place (places i).function) true None (places i).nests n less
+
+      -- how a split leaves the level around its parts
+      left_there : (i : ℕ) (op : CoreOp) (by : SplitKind) (at : OpAt core i op (o.Split by)) → nestings.forks (suc i) (nestings.levels i) ≡ rooms.forks_in (place_behind (o.Split by) true (places i)) (level i)
+      left_there i op by at =
+          let goes = (fit i op (o.Split by) at).goes_on true in
+          let more = ap rooms.levels_in goes.place ∙ parted i op by at in
+          ap (λ n. level_forks core (suc i) n) (count_is i (lt i op (o.Split by) at))
+          ∙ held.rooms.forked (suc i) (level i) (within_on i op (o.Split by) at refl true) (omega (arith, more)) ∙ ap (λ p. rooms.forks_in p (level i)) goes.place
+
+      left_last : (i : ℕ) (op : CoreOp) (by : SplitKind) (at : OpAt core i op (o.Split by)) (numbered : Bool)
+          → rooms.levels_in (place_behind (o.Split by) true (places i)) ≡ levels_of (is_main_place (places i).function) (OfPart numbered None ∷ (places i).nests)
+          → forks_of (is_main_place (places i).function) (OfPart numbered None ∷ (places i).nests) (level i) ≡ left_by_fork numbered (places i).nests
+      left_last i op by at numbered same = last_of (is_main_place (places i).function) numbered None (places i).nests (level i) (sym same ∙ parted i op by at)
+
+      left : (i : ℕ) (op : CoreOp) (by : SplitKind) (at : OpAt core i op (o.Split by)) → LeavesBy by (nestings.forks (suc i) (nestings.levels i))
+      left i op sk.IfAlone at = left_there i op sk.IfAlone at ∙ left_last i op sk.IfAlone at false refl
+      left i op sk.IfElse at = left_there i op sk.IfElse at ∙ left_last i op sk.IfElse at false refl
+      left i op sk.AndThen at = left_there i op sk.AndThen at ∙ left_last i op sk.AndThen at false refl
+      left i op sk.OrElse at = left_there i op sk.OrElse at ∙ left_last i op sk.OrElse at false refl
+      left i op sk.Loop at = left_there i op sk.Loop at ∙ left_last i op sk.Loop at false refl
+      left i op sk.Fork at = subst (λ (x : Option ℕ). LeavesBy sk.Fork x) (sym (left_there i op sk.Fork at ∙ left_last i op sk.Fork at true refl)) tt
+
+      none_begun : (i n : ℕ) → places i ≡ entered Main → n < level i → ⊥
+      none_begun i n e less = let none' = ap rooms.levels_in e in omega (arith, none', less)
+
+      back_forks : (i j : ℕ) → places j ≡ record (places i) { nests = tail (places i).nests } → IsInPart (places i).nests → KeepsForks (places j) (places i)
+      back_forks i j e within n less =
+          tail_forks (is_main_place (places i).function) (places i).nests n within (subst (λ p. n < rooms.levels_in p) e less) ∙ sym (ap (λ p. rooms.forks_in p n) e)
+
       begun : (i : ℕ) (onward : Bool) → places i ≡ entered Main → rooms.levels_in (place_behind o.Begin onward (places i)) ≡ level i
       begun i true e = ap (λ p. rooms.levels_in (place_behind o.Begin true p)) e ∙ sym (ap rooms.levels_in e)
       begun i false e = refl
@@ -399,22 +491,28 @@ module _ (core : List CoreOp) (main firsts : ℕ) (kept : List Set) (begins : ma
       goes_with i op o.Halt at step = untrue step
       goes_with i op (o.Split by) at step =
           let goes = (fit i op (o.Split by) at).goes_on true in
-          opens_there i (suc i) true (lt i op (o.Split by) at) (within_on i op (o.Split by) at refl true) (leads_is i op (o.Split by) at true) (ap rooms.levels_in goes.place ∙ parted i op by at)
+          record {
+            opens = opens_there i (suc i) true (lt i op (o.Split by) at) (within_on i op (o.Split by) at refl true) (leads_is i op (o.Split by) at true) (ap rooms.levels_in goes.place ∙ parted i op by at)
+                (λ n less. ap (λ p. rooms.forks_in p n) goes.place ∙ parted_forks i by n less);
+            left = left i op by at;
+          }
       goes_with i op o.Begin at step =
           let f = fit i op o.Begin at in
           same_on i op o.Begin at true (suc i) (leads_is i op o.Begin at true) (within_on i op o.Begin at refl true) (place_behind o.Begin true (places i)) (f.goes_on true) (begun i true f.may)
+          (λ n less. absurd (none_begun i n f.may less))
       goes_with i op (o.Frame number words') at step =
           let f = fit i op (o.Frame number words') at in
           same_on i op (o.Frame number words') at true (suc i) (leads_is i op (o.Frame number words') at true) (within_on i op (o.Frame number words') at refl true)
           (place_behind (o.Frame number words') true (places i)) (f.goes_on true) (frame_level (places i) (is_main_place (places i).function) words' (places i).nests)
+          (λ n less. frame_forks (is_main_place (places i).function) words' (places i).nests n)
       goes_with i op operation at step =
-          same_on i op operation at true (suc i) (leads_is i op operation at true) (within_on i op operation at refl true) (places i) ((fit i op operation at).goes_on true) refl
+          same_on i op operation at true (suc i) (leads_is i op operation at true) (within_on i op operation at refl true) (places i) ((fit i op operation at).goes_on true) refl (λ n less. refl)
 
       led : (i : ℕ) (op : CoreOp) (operation : Operation) → OpAt core i op operation → leads_away operation ≡ true → LevelsStay nestings i op.target
       led i op o.Begin at away =
-          same_on i op o.Begin at false op.target (leads_is i op o.Begin at false) (within_on i op o.Begin at refl false) (places i) ((fit i op o.Begin at).goes_on false) refl
+          same_on i op o.Begin at false op.target (leads_is i op o.Begin at false) (within_on i op o.Begin at refl false) (places i) ((fit i op o.Begin at).goes_on false) refl (λ n less. refl)
       led i op o.Seq at away =
-          same_on i op o.Seq at false op.target (leads_is i op o.Seq at false) (within_on i op o.Seq at refl false) (places i) ((fit i op o.Seq at).goes_on false) refl
+          same_on i op o.Seq at false op.target (leads_is i op o.Seq at false) (within_on i op o.Seq at refl false) (places i) ((fit i op o.Seq at).goes_on false) refl (λ n less. refl)
       led i op operation at away = untrue away
 
       ended : (i : ℕ) (op : CoreOp) → OpAt core i op o.End → EndsLevel nestings i op.target
@@ -426,17 +524,23 @@ module _ (core : List CoreOp) (main firsts : ℕ) (kept : List Set) (begins : ma
           let out = end_level (places i) (is_main_place (places i).function) (places i).nests f.may in
           let to = ap rooms.levels_in (f.goes_on true).place in
           record {
-            start = λ none. stays i op.target true here there leads' (to ∙ out.0 (sym (count_is i here) ∙ none));
-            part = λ some. closes_there i op.target true here there leads' (out.1 (some_of (levels_in saved i).count (level i) (count_is i here) some) ∙ ap suc (sym to));
+            start = λ none. stays i op.target true here there leads' (to ∙ out.0 (sym (count_is i here) ∙ none))
+                (λ n less. let many = count_is i here in let z : ⊥ = omega (arith, none, many, less) in absurd z);
+            part = λ some. closes_there i op.target true here there leads' (out.1 (some_of (levels_in saved i).count (level i) (count_is i here) some) ∙ ap suc (sym to))
+                (back_forks i op.target (f.goes_on true).place f.may);
           }
 
-      shrunk : (i : ℕ) (op : CoreOp) → OpAt core i op o.Shrink → LevelOpens nestings op.target i
+      shrunk : (i : ℕ) (op : CoreOp) → OpAt core i op o.Shrink → LevelOpens nestings op.target i × (last_fork nestings i ≡ None)
       shrunk i op at =
           let f = fit i op o.Shrink at in
           let here = lt i op o.Shrink at in
           let out = end_level (places i) (is_main_place (places i).function) (places i).nests f.may.0 in
-          let some = shrinks i op at.stands at.is_read (level i) (held.rooms.counted i here) in
-          closes_there i op.target false here (within_on i op o.Shrink at refl false) (leads_is i op o.Shrink at false) (out.1 some ∙ ap suc (sym (ap rooms.levels_in (f.goes_on false).place)))
+          let some = shrinks i op at.stands at.is_read (level i) (held.rooms.counted i here) in (
+            closes_there i op.target false here (within_on i op o.Shrink at refl false) (leads_is i op o.Shrink at false) (out.1 some ∙ ap suc (sym (ap rooms.levels_in (f.goes_on false).place)))
+                (back_forks i op.target (f.goes_on false).place f.may.0),
+            ap (λ n. level_forks core i (n - 1)) (count_is i here) ∙ held.rooms.forked i (level i - 1) here (omega (arith, some))
+                ∙ last_no_fork (is_main_place (places i).function) (places i).nests (level i - 1) f.may.0 f.may.1 (omega (arith, some)),
+          )
 
       -- where a part begins there is room for its level
       room_in : (i : ℕ) (op : CoreOp) (by : SplitKind) (at : OpAt core i op (o.Split by)) (onward : Bool) (j values : ℕ) → (follows core (o.Split by) i op.target [] onward).at ≡ j → j < length core
@@ -453,12 +557,14 @@ module _ (core : List CoreOp) (main firsts : ℕ) (kept : List Set) (begins : ma
       waits_there i op by at same =
           let goes = (fit i op (o.Split by) at).goes_on false in
           stays i op.target false (lt i op (o.Split by) at) (within_on i op (o.Split by) at refl false) (leads_is i op (o.Split by) at false) (ap rooms.levels_in goes.place ∙ ap rooms.levels_in same)
+          (λ n less. ap (λ p. rooms.forks_in p n) goes.place ∙ ap (λ p. rooms.forks_in p n) same)
 
       aside : (i : ℕ) (op : CoreOp) (by : SplitKind) (at : OpAt core i op (o.Split by)) (values : ℕ) → values ≤ suc (most i) → GoesAside by blocks nestings i op.target values
       aside i op sk.IfElse at values few =
           let goes = (fit i op (o.Split sk.IfElse) at).goes_on false in
           let there = within_on i op (o.Split sk.IfElse) at refl false in (
-            opens_there i op.target false (lt i op (o.Split sk.IfElse) at) there (leads_is i op (o.Split sk.IfElse) at false) (ap rooms.levels_in goes.place ∙ parted i op sk.IfElse at),
+            opens_there i op.target false (lt i op (o.Split sk.IfElse) at) there (leads_is i op (o.Split sk.IfElse) at false) (ap rooms.levels_in goes.place ∙ parted i op sk.IfElse at)
+                (λ n less. ap (λ p. rooms.forks_in p n) goes.place ∙ parted_forks i sk.IfElse n less),
             room_in i op sk.IfElse at false op.target values refl there few,
           )
       aside i op sk.IfAlone at values few = waits_there i op sk.IfAlone at refl
@@ -480,7 +586,8 @@ module _ (core : List CoreOp) (main firsts : ℕ) (kept : List Set) (begins : ma
         alone = record {
           operations = λ i op operation at alone. alone_fit i op operation at alone;
           jumps = λ i op at jump.
-              stays i op.target true (slice_get_within core i op at) (target_within i op at jump) (jump_leads i op at jump) (ap rooms.levels_in (held.rooms.jumps i op at jump).place);
+              stays i op.target true (slice_get_within core i op at) (target_within i op at jump) (jump_leads i op at jump) (ap rooms.levels_in (held.rooms.jumps i op at jump).place)
+              (λ n less. ap (λ p. rooms.forks_in p n) (held.rooms.jumps i op at jump).place);
         };
         steps = record {
           room = λ i op operation at step. room_here i op operation at op.depth (omega arith);

@@ -56,6 +56,9 @@ lists_are_of_tree program facts known of_program laid plain core entry flat told
       frames = can.nests.local;
       levels = λ i lt. told_count saved i _ (ap (λ (ns : List ℕ). slice_get ns i) are.count ∙ can.nests.levels.levels i lt);
       nest = λ i lt. told_nest saved i _ (ap (λ (ns : List ℕ). slice_get ns i) are.nest ∙ can.nests.levels.parts i lt);
+      forks = λ i level lt less.
+          let many = told_count saved i _ (ap (λ (ns : List ℕ). slice_get ns i) are.count ∙ can.nests.levels.levels i lt) in
+          can.nests.levels.forks i level lt (omega (arith, less, many));
       in_tree = programs_stay_in_trees program facts laid plain core entry flat (sites_are_own known core sites) can.nests.local;
       well_formed = record { leads_on = stands.leads_on; depths = can.depths };
       may = can.steady.may;

@@ -7,6 +7,7 @@ use Rattle.fk_core.specs.declared.op.CoreOp.{CoreOp}
 use Rattle.fk_core.specs.KeepsRuns.{HasCodeOf}
 use Rattle.fk_core_flat.specs.Laws.{IsFlat}
 use Rattle.fk_gen_list.specs.Generable.{HasBlocks}
+use Rattle.fk_core_levels.specs.Forks.{level_forks}
 use Rattle.fk_core_levels.specs.Levels.{AreLevels}
 use Rattle.fk_gen.specs.declared.placed.Levels.{Levels}
 use Rattle.fk_sim_block.specs.Node.{Gathering}
@@ -29,4 +30,4 @@ pub record IsGrouped (core : List CoreOp) (main firsts : ℕ) : Type 0 where
   pub can : CanHaveGroups core main firsts
   pub blocks : HasBlocks core
   pub tree : (saved : List Levels) → AreLevels core saved → (start : Gathering)
-      → IsOfTree core (nestings_of saved start) main
+      → IsOfTree core (nestings_of saved (level_forks core) start) main

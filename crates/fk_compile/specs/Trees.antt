@@ -9,6 +9,7 @@ use Rattle.fk_layout.specs.Layout.{tables_by}
 use Rattle.fk_core.specs.declared.op.CoreOp.{CoreOp}
 use Rattle.fk_core.specs.Next.{position, landing, next}
 use Rattle.fk_core_flat.specs.Laws.{IsFlat}
+use Rattle.fk_core_levels.specs.Forks.{level_forks}
 use Rattle.fk_core_levels.specs.Levels.{AreLevels}
 use Rattle.fk_lower.specs.Depths.{AreTold}
 use Rattle.fk_lower_text.specs.Depths.{depths_of}
@@ -50,4 +51,4 @@ ListsAreOfTree =
     → IsFlat (bodies_of tables program) core entry
     → AreTold (depths_of known (functions_in known)) core → HasSites known core
     → (saved : List Levels) → AreLevels core saved → (start : Gathering)
-    → IsOfTree core (nestings_of saved start) (entry (main_of tables program))
+    → IsOfTree core (nestings_of saved (level_forks core) start) (entry (main_of tables program))

@@ -8,23 +8,29 @@ use Rattle.fk_core.specs.declared.op.CoreOp.{CoreOp}
 use Rattle.fk_core.specs.Numbers.{operation_of}
 use Rattle.fk_core.specs.Next.{is_jump}
 use Rattle.fk_core_levels.specs.Count.{read, here, after, inside, enters, opens, counts_from, nests_from}
+use Rattle.fk_core_levels.specs.Forks.{Parts as OpenParts, no_part, come_to, leave, open_from}
 
--- how many levels are open, and how many parts with the group of `start` among them
+-- how many levels are open, how many parts with the group of `start` among them, and how groups were left
 pub record Parts : Type 0 where
   pub levels : ℕ
   pub around : ℕ
+  pub forks : OpenParts
 
-abbrev pub parts : (levels around : ℕ) → Parts
-parts levels around = record { levels = levels; around = around }
+abbrev pub parts : (levels around : ℕ) → OpenParts → Parts
+parts levels around forks = record { levels = levels; around = around; forks = forks }
 
 abbrev pub none : Parts
-none = parts 0 0
+none = parts 0 0 no_part
 
 abbrev pub at : Option Operation → Parts → Parts
-at op k = parts (here k.levels op) (here k.around op)
+at op k = parts (here k.levels op) (here k.around op) (come_to op k.forks)
 
 abbrev pub past : Option Operation → Parts → Parts
-past op k = parts (after k.levels op) (inside k.around op)
+past op k = parts (after k.levels op) (inside k.around op) (leave op k.forks)
+
+-- with so many words in the frame of the innermost part
+abbrev pub worded : (words : ℕ) → Parts → Parts
+worded words k = parts k.levels k.around (record { parts = k.forks.parts; words = words })
 
 -- these, and whether the opening of a call is written
 pub record Fold : Type 0 where
@@ -62,6 +68,10 @@ around_if : (b : Bool) (k : Parts) → (if b then none else k).around ≡ (if b 
 around_if true k = refl
 around_if false k = refl
 
+open_if : (b : Bool) (k : Parts) → (if b then none else k).forks.parts ≡ (if b then [] else k.forks.parts)
+open_if true k = refl
+open_if false k = refl
+
 pub counted : (k : Parts) (b : Bool) (ops : List CoreOp) (i : ℕ) → i < length ops → slice_get (counts_from k.levels b ops) i ≡ Some (told_by (slice_get ops i) (folded k b ops i)).levels
 counted k b [] i lt = absurd (let z : ⊥ = omega arith in z)
 counted k b (op ∷ ops) zero lt = ap Some (sym (levels_if b (at (read op) k)))
@@ -71,6 +81,11 @@ pub nested : (k : Parts) (b : Bool) (ops : List CoreOp) (i : ℕ) → i < length
 nested k b [] i lt = absurd (let z : ⊥ = omega arith in z)
 nested k b (op ∷ ops) zero lt = ap Some (sym (around_if b (at (read op) k)))
 nested k b (op ∷ ops) (suc i) lt = nested (past (read op) (at (read op) k)) (opens b op) ops i (omega (arith, lt))
+
+pub opened : (k : Parts) (b : Bool) (ops : List CoreOp) (i : ℕ) → i < length ops → slice_get (open_from k.forks b ops) i ≡ Some (told_by (slice_get ops i) (folded k b ops i)).forks.parts
+opened k b [] i lt = absurd (let z : ⊥ = omega arith in z)
+opened k b (op ∷ ops) zero lt = ap Some (sym (open_if b (at (read op) k)))
+opened k b (op ∷ ops) (suc i) lt = opened (past (read op) (at (read op) k)) (opens b op) ops i (omega (arith, lt))
 
 -- ---- one entry
 

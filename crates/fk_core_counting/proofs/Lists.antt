@@ -9,6 +9,8 @@ use Rattle.fk_meaning.proofs.Spine.{untrue}
 use Rattle.fk_meaning_operation.specs.declared.operation.Operation.{Operation}
 use Rattle.fk_core.specs.declared.op.CoreOp.{CoreOp}
 use Rattle.fk_core_levels.specs.Count.{read, counts, nests}
+use Rattle.fk_core_levels.specs.Forks.{fork_at, fork_in, level_forks}
+use Rattle.fk_core_flat.specs.Items.{Item, Has}
 use Rattle.fk_core_flat.specs.Flat.{extent, flat}
 use Rattle.fk_core_flat.specs.Shape.{is_closed}
 use Rattle.fk_core_flat.proofs.Lengths.{flat_length}
@@ -22,10 +24,12 @@ use Rattle.fk_core_typing.proofs.Marks.{Noted, marks, mark_length}
 use Rattle.fk_core_typing.proofs.Listed.{state, noted, has_below}
 use Rattle.fk_core_typing.proofs.Valued.{values, values_lawful, all_judged, at}
 use Rattle.fk_core_typing.proofs.Knowing.{typed_lists_know, frames_of_states}
-use Rattle.fk_lockstep_frames.specs.Nests.{Nest, nesting, levels_of}
+use Rattle.fk_lockstep_frames.specs.Nests.{Nest, nesting, levels_of, forks_of}
+use Rattle.fk_lockstep_structure.specs.Placed.{is_main}
 use Rattle.fk_core_counting.specs.Laws.{IsRun, TypedListsTellLevels}
-use Rattle.fk_core_counting.proofs.Folding.{Parts, none, Fold, fold, folded, stepped, counted, nested, told_by}
-use Rattle.fk_core_counting.proofs.Ways.{levels_at, parts_at, Says, Stand, stand_at, stand_begun}
+use Rattle.fk_core_counting.proofs.Folding.{Parts, none, Fold, fold, folded, stepped, counted, nested, opened, told_by}
+use Rattle.fk_core_counting.proofs.Ways.{levels_at, forks_at, parts_at, Says, Stand, stand_at, stand_begun}
+use Rattle.fk_core_counting.proofs.Forks.{told_forks}
 use Rattle.fk_core_counting.proofs.Walk.{KeepsPlaces, AreRight, walk}
 
 module _ (bodies : (binding : ℕ) → Code ℕ) (core : List CoreOp) (entry : ℕ → ℕ) (place_of : (binding : ℕ) → FunctionKind) (frame_of : (binding : ℕ) → Option ℕ)
@@ -57,7 +61,7 @@ module _ (bodies : (binding : ℕ) → Code ℕ) (core : List CoreOp) (entry : �
       let who = (run f).who in
       let stand : Stand who (place (sys.first f)) none = stand_at who (place (sys.first f)) (with_frame (place_of f) first.0) none first.1 (stand_begun who (place_of f) first.0 (run f).by_main) in
       walk core entry may_call has_body sys place place_of keeps here (stepped none false core) (bodies f) false None None (sys.first f) (judged f).0 (begins f) (length core) none none who
-      false false false false of_function false (typed.shaped f).0 (shapes f) (run f).placed (judged f).1 (typed.flat.has f) (run f).shrinks (λ is. untrue is) stand refl e
+      false false false false of_function false false (typed.shaped f).0 (shapes f) (run f).placed (judged f).1 (typed.flat.has f) (run f).shrinks (run f).frames (λ is. untrue is) (λ is. untrue is) stand refl e
 
   inside : (f : ℕ) → 0 < long f → begins f < length core
   inside f some =
@@ -125,6 +129,9 @@ module _ (bodies : (binding : ℕ) → Code ℕ) (core : List CoreOp) (entry : �
   pub parts_told : (i : ℕ) → i < length core → slice_get (nests core) i ≡ Some (nesting (place (there i)).nests)
   parts_told i lt = nested none false core i lt ∙ ap (λ (k : Parts). Some k.around) (tells i lt).0
 
+  pub forks_told : (i level : ℕ) → i < length core → level_forks core i level ≡ fork_at (forks_at (place (there i))).parts level
+  forks_told i level lt = ap (λ x. fork_in x level) (opened none false core i lt) ∙ ap (λ (k : Parts). fork_at k.forks.parts level) (tells i lt).0
+
   pub says_at : (i : ℕ) (op : CoreOp) (operation : Operation) → slice_get core i ≡ Some op → read op ≡ Some operation → Says operation (place (there i))
   says_at i op operation at is = (tells i (slice_get_within core i op at)).1 op operation at is
 
@@ -151,6 +158,11 @@ typed_lists_tell_levels bodies core entry place_of frame_of may_call typed shape
       record {
         levels = λ i lt. levels i lt ∙ ap Some (sym (same_levels i));
         parts = λ i lt. parts i lt ∙ ap (λ (nests' : List Nest). Some (nesting nests')) (sym (same i).0);
+        forks = λ i level lt less.
+            forks i level lt
+            ∙ told_forks (is_main_place (there i).place.function) (there i).place.nests level (subst (λ n. level < n) (same_levels i) less)
+            ∙ sym (ap (λ (nests' : List Nest). forks_of (is_main_place (there i).place.function) nests' level) (same i).0)
+            ∙ sym (ap (λ b. forks_of b ((typed_lists_know bodies core entry place_of frame_of typed main is none).0.nests i) level) (same i).1);
         splits = λ i op by at read in_main.
             subst (λ (nests' : List Nest). 1 ≤ nesting nests') (sym (same i).0) (says i op (Split by) at read (sym (same i).1 ∙ in_main));
         shrinks = λ i op at read. subst (λ n. 1 ≤ n) (sym (same_levels i)) (says i op Shrink at read);
@@ -182,6 +194,11 @@ typed_lists_tell_levels bodies core entry place_of frame_of may_call typed shape
     parts i lt =
         parts_told bodies core entry place_of frame_of typed may_call shapes run (values place_of frame_of) (values_lawful place_of frame_of)
         (all_judged bodies core entry place_of frame_of typed) (bare (entered Main)) place_in (values_keep place_of frame_of) i lt
+
+    forks : (i level : ℕ) → i < length core → level_forks core i level ≡ fork_at (forks_at (there i).place).parts level
+    forks i level lt =
+        forks_told bodies core entry place_of frame_of typed may_call shapes run (values place_of frame_of) (values_lawful place_of frame_of)
+        (all_judged bodies core entry place_of frame_of typed) (bare (entered Main)) place_in (values_keep place_of frame_of) i level lt
 
     says : (i : ℕ) (op : CoreOp) (operation : Operation) → slice_get core i ≡ Some op → read op ≡ Some operation → Says operation (there i).place
     says i op operation at' is' =

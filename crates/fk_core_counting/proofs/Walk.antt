@@ -3,10 +3,12 @@ use Rattle.std.proofs.Common.{◌≡◌, ◌⊎◌, ℕ, suc, ◌+◌, ◌-◌, 
 use Rattle.std.specs.Prelude.{◌||◌}
 use Rattle.fk_meaning_operation.specs.declared.operation.Operation.{Operation}
 use Rattle.fk_meaning_operation.specs.declared.operation.Operation.TheVariants as o
+use Rattle.fk_meaning_operation.specs.declared.operation.SplitKind.TheVariants as sk
 use Rattle.fk_meaning_forms.specs.Code.{Code, done, perform, choose, while, until, turn, again, quit, break, continue, call, ends}
 use Rattle.fk_meaning.specs.Shape as sh
-use Rattle.fk_meaning.specs.Shape.{Exits, of_way, of_test, of_turn, splits, has_two_parts, waits, ends_part, Either, Shape}
-use Rattle.fk_meaning.specs.Behind.{opens_body}
+use Rattle.fk_meaning.specs.Shape.{Exits, of_way, of_test, of_turn, splits, has_two_parts, waits, is_quit, is_chosen, ends_part, Either, Shape}
+use Rattle.fk_meaning.specs.Behind.{opens_body, is_shrink}
+use Rattle.fk_meaning.proofs.Spine.{untrue}
 use Rattle.fk_core.specs.declared.op.CoreOp.{CoreOp}
 use Rattle.fk_core.specs.Next.{is_jump}
 use Rattle.fk_core.specs.CodeAt.{Around}
@@ -26,9 +28,9 @@ use Rattle.fk_core_typing.proofs.System.{System, Loop, Judged}
 use Rattle.fk_core_typing.proofs.Marks.{skip_mark, skip_length, marks, mark_length}
 use Rattle.fk_lockstep_structure.specs.Placed.{Who, OfBody, inner, who_in, callee_of, may_perform, Placed}
 use Rattle.fk_core_levels.specs.Count.{read, enters}
-use Rattle.fk_core_counting.specs.Laws.{under, ShrinksIn}
-use Rattle.fk_core_counting.proofs.Folding.{Parts, none, at, past, Fold, fold, step, told_by, after_operation, told_of_operation, none_read, after_jump, told_of_jump, opening_goes_on}
-use Rattle.fk_core_counting.proofs.Ways.{parts_at, Stand, stand_at, stand_inner, stand_begun, Enters, Says, says_straight, says_onto, says_into, says_out, straight_on, quit_on, says_quit, out_on, here_of, resume_of, after_straight, after_quit, no_enter, either_here, out_here, into_here, ways}
+use Rattle.fk_core_counting.specs.Laws.{under, takes_in_part, ShrinksIn, FramesIn}
+use Rattle.fk_core_counting.proofs.Folding.{Parts, none, at, past, worded, Fold, fold, step, told_by, after_operation, told_of_operation, none_read, after_jump, told_of_jump, opening_goes_on}
+use Rattle.fk_core_counting.proofs.Ways.{parts_at, Stand, stand_at, stand_inner, stand_begun, Enters, Says, says_straight, says_onto, says_into, says_out, straight_on, quit_on, says_quit, out_on, here_of, resume_of, after_straight, outside_parts, straight_worded, after_onto, after_quit, no_enter, either_here, out_here, into_here, Ways, ways}
 
 -- the places of states, and how they change
 pub record KeepsPlaces (sys : System) (place : sys.State → Place) (place_of : ℕ → FunctionKind) : Type 0 where
@@ -40,6 +42,29 @@ pub record KeepsPlaces (sys : System) (place : sys.State → Place) (place_of : 
   pub calls : (op : Operation) (gives : Bool) (s : sys.State) → place (sys.behind_call op gives s) ≡ place s
   pub may : (op : Operation) (s : sys.State) → sys.May op s → MayBeIn op (place s)
   pub first : (f : ℕ) → (frame : Option ℕ) × (place (sys.first f) ≡ with_frame (place_of f) frame)
+
+-- a loop that shrinks is in the only part of a split
+in_either : (b : Bool) (A G : Type 0) → Either b ((false ≡ true) × A) G → G
+in_either true A G e = untrue e.0
+in_either false A G e = e
+
+shrink_is : (op : Operation) → is_shrink op ≡ true → op ≡ o.Shrink
+shrink_is o.Shrink e = refl
+shrink_is op e = untrue e
+
+test_shrinks : (code : Code ℕ) (shrinking closing b : Bool) → shrinking ≡ true → Shape false closing (of_test shrinking) code → ShrinksIn b code → b ≡ true
+test_shrinks done shrinking closing b e shape h = absurd (true≢false shape.2)
+test_shrinks (perform t op rest) shrinking closing b e shape h = test_shrinks rest shrinking false b e (in_either (ends_part op) (((of_test shrinking).tests ≡ false) × (rest ≡ done)) (Shape false false (of_test shrinking) rest) shape.2) h
+test_shrinks (choose t op x y rest) shrinking closing b e shape h = test_shrinks rest shrinking (opens_body op) b e shape.6 h.2
+test_shrinks (while test body last rest) shrinking closing b e shape h = test_shrinks rest shrinking false b e (in_either shape.1 (((of_test shrinking).tests ≡ false) × (rest ≡ done)) (Shape false false (of_test shrinking) rest) shape.5) h.3
+test_shrinks (until body test rest) shrinking closing b e shape h = test_shrinks rest shrinking false b e (in_either shape.1 (((of_test shrinking).tests ≡ false) × (rest ≡ done)) (Shape false false (of_test shrinking) rest) shape.4) h.2
+test_shrinks (turn test body last rest) shrinking closing b e shape h = absurd shape
+test_shrinks (again test body last rest) shrinking closing b e shape h = absurd shape
+test_shrinks (quit t op rest) shrinking closing b e shape h = h.0 (shrink_is op (shape.4 ∙ e))
+test_shrinks (break rest) shrinking closing b e shape h = test_shrinks rest shrinking false b e shape.2 h
+test_shrinks (continue rest) shrinking closing b e shape h = test_shrinks rest shrinking false b e shape.2 h
+test_shrinks (call t op f opening rest) shrinking closing b e shape h = test_shrinks rest shrinking false b e shape.3 h
+test_shrinks (ends t op rest) shrinking closing b e shape h = test_shrinks rest shrinking false b e shape.3 h
 
 module _ (core : List CoreOp) (entry : ℕ → ℕ) (may_call : (in_group : Bool) → (function : ℕ) → Bool) (has_body : ℕ → Bool) (sys : System) (place : sys.State → Place) (place_of : ℕ → FunctionKind)
     (keeps : KeepsPlaces sys place place_of) (come : ℕ → Fold) (goes : (i : ℕ) → come (suc i) ≡ step (slice_get core i) (come i)) where
@@ -70,6 +95,31 @@ module _ (core : List CoreOp) (entry : ℕ → ℕ) (may_call : (in_group : Bool
 
   moved : (i r : ℕ) (k : Parts) → r ≡ i → Behind i k → Behind r k
   moved i r k e h = ap come e ∙ h
+
+  -- behind a part the frame of its last operations may be open. Of two parts the first one ends without it
+  abbrev Ended : (part only : Bool) → Parts → ℕ → Type 0
+  Ended false only n r = Behind r n
+  Ended true only n r = (words : ℕ) × Behind r (worded words n) × (only ≡ false → words ≡ 0)
+
+  ended_no_part : (part only : Bool) (n : Parts) (r : ℕ) → part ≡ false → Behind r n → Ended part only n r
+  ended_no_part true only n r e h = absurd (true≢false e)
+  ended_no_part false only n r e h = h
+
+  ended_only : (part only : Bool) (n : Parts) (r : ℕ) → only ≡ true → Behind r n → Ended part only n r
+  ended_only true only n r e h = (n.forks.words, h, λ none'. absurd (true≢false (sym e ∙ none')))
+  ended_only false only n r e h = h
+
+  ended_part : (part only : Bool) (n : Parts) (r : ℕ) → part ≡ true → Behind r (worded 0 n) → Ended part only n r
+  ended_part true only n r e h = (0, h, λ none'. refl)
+  ended_part false only n r e h = absurd (true≢false (sym e))
+
+  -- a frame that is taken in a part makes no difference behind it
+  ended_with : (part only : Bool) (n' n : Parts) (r : ℕ) → (part ≡ false → n' ≡ n) → ((words : ℕ) → worded words n' ≡ worded words n) → Ended part only n' r → Ended part only n r
+  ended_with true only n' n r same with' h = (h.0, h.1 ∙ ap (λ z. fold z false) (with' h.0), h.2)
+  ended_with false only n' n r same with' h = h ∙ ap (λ z. fold z false) (same refl)
+
+  moved_to : (E : ℕ → Type 0) (i r : ℕ) → r ≡ i → E i → E r
+  moved_to E i r e h = subst E (sym e) h
 
   -- ---- one item
 
@@ -135,12 +185,14 @@ module _ (core : List CoreOp) (entry : ℕ → ℕ) (may_call : (in_group : Bool
       let here' = goes_away (way_of op) || begins_here true rest in
       let g : here' ≡ true = ap (λ x. goes_away x || begins_here true rest) shape.0 ∙ opening_begins core entry rest shape.1 in
       let r = sys.behind op true s in
+      let out = outside_parts op (place s) (keeps.may op s t.0) (ap (λ (x : Parts). x.around) stand.is) in
       let others = subst (λ (b : Bool). Has core (suc i) (skip b (label None (suc i + gap b) k rest) ++ flat entry true None (suc i + gap b) k rest)) g h.1 in
       let next : suc i + 0 ≡ suc i = omega arith in
       let there = subst (λ j. Has core (suc i) (flat entry true None j k rest)) next others in
       let onward = act_goes i m n true op (aim (way_of op) k) h.0 f
-      ∙ ap (λ x. fold (past (Some op) x) (enters true (Some op))) (here_of op n placed.0) ∙ ap (λ x. fold x (enters true (Some op))) (after_straight op n (inl shape.0)) ∙ ap (fold n) (opening_goes_on op) in
-      let stand' = stand_at OfBody (place r) (place_behind op true (place s)) none (keeps.behind op true s) (straight_on OfBody op (place s) none shape.0 stand) in
+      ∙ ap (λ x. fold (past (Some op) x) (enters true (Some op))) (here_of op n placed.0) ∙ ap (λ x. fold x (enters true (Some op))) (after_straight op n shape.0 out) ∙ ap (fold n) (opening_goes_on op) in
+      let went = subst (λ (x : Parts). Stand OfBody (place_behind op true (place s)) x) (after_straight op none shape.0 out) (straight_on OfBody op (place s) none shape.0 (keeps.may op s t.0) stand) in
+      let stand' = stand_at OfBody (place r) (place_behind op true (place s)) none (keeps.behind op true s) went in
       let more = opened rest l r e (suc i) k n who shape.1 placed.1 t.1 there stand' onward in
       let far : i + suc (0 + extent true rest) ≡ suc i + extent true rest = omega arith in (
         (
@@ -163,21 +215,21 @@ module _ (core : List CoreOp) (entry : ℕ → ℕ) (may_call : (in_group : Bool
   -- ---- code
 
   -- what code comes to: the counts at its indices, and what is open behind it
-  abbrev Counted : (near : Bool) (l : Option (Loop sys)) (s : sys.State) (code : Code ℕ) (e : sys.State) → Judged sys l s code e → (i : ℕ) (n : Parts) → Type 0
-  Counted near l s code e t i n = AreRight i (marks sys near l s code e t) × Behind (i + extent near code) n
+  abbrev Counted : (near : Bool) (l : Option (Loop sys)) (s : sys.State) (code : Code ℕ) (e : sys.State) → Judged sys l s code e → (i : ℕ) (E : ℕ → Type 0) → Type 0
+  Counted near l s code e t i E = AreRight i (marks sys near l s code e t) × E (i + extent near code)
 
-  counted_done : (code : Code ℕ) → is_done code ≡ true → (near : Bool) (l : Option (Loop sys)) (s e : sys.State) (t : Judged sys l s code e) (i : ℕ) (n : Parts) → Behind i n → Counted near l s code e t i n
-  counted_done code is near l s e t i n f =
-      by_done (λ x. (t' : Judged sys l s x e) → Counted near l s x e t' i n) code is (λ t'. (tt, moved i (i + 0) n (omega arith) f)) t
+  counted_done : (code : Code ℕ) → is_done code ≡ true → (near : Bool) (l : Option (Loop sys)) (s e : sys.State) (t : Judged sys l s code e) (i : ℕ) (E : ℕ → Type 0) → E i → Counted near l s code e t i E
+  counted_done code is near l s e t i E f =
+      by_done (λ x. (t' : Judged sys l s x e) → Counted near l s x e t' i E) code is (λ t'. (tt, moved_to E i (i + 0) (omega arith) f)) t
 
   -- code behind an operation, after a jump to it if that is somewhere else
-  abbrev Goes : (rest : Code ℕ) (near : Bool) (c : Around) (l : Option (Loop sys)) (s e : sys.State) → Judged sys l s rest e → (k : ℕ) (n : Parts) → Type 0
-  Goes rest near c l s e t k n = (j : ℕ) → Has core j (flat entry near c j k rest) → Behind j n → Counted near l s rest e t j n
+  abbrev Goes : (rest : Code ℕ) (near : Bool) (c : Around) (l : Option (Loop sys)) (s e : sys.State) → Judged sys l s rest e → (k : ℕ) (n : Parts) (E : ℕ → Type 0) → Type 0
+  Goes rest near c l s e t k n E = (j : ℕ) → Has core j (flat entry near c j k rest) → Behind j n → Counted near l s rest e t j E
 
-  falls : (b : Bool) (rest : Code ℕ) (near : Bool) (c : Around) (l : Option (Loop sys)) (s e : sys.State) (t : Judged sys l s rest e) (j k : ℕ) (n : Parts) → parts_of s ≡ n
-      → Has core j (skip b (label c (j + gap b) k rest) ++ flat entry near c (j + gap b) k rest) → Behind j n → Goes rest near c l s e t k n
-      → AreRight j (skip_mark b s ++ marks sys near l s rest e t) × Behind (j + (gap b + extent near rest)) n
-  falls b rest near c l s e t j k n stand h f more =
+  falls : (b : Bool) (rest : Code ℕ) (near : Bool) (c : Around) (l : Option (Loop sys)) (s e : sys.State) (t : Judged sys l s rest e) (j k : ℕ) (n : Parts) (E : ℕ → Type 0) → parts_of s ≡ n
+      → Has core j (skip b (label c (j + gap b) k rest) ++ flat entry near c (j + gap b) k rest) → Behind j n → Goes rest near c l s e t k n E
+      → AreRight j (skip_mark b s ++ marks sys near l s rest e t) × E (j + (gap b + extent near rest))
+  falls b rest near c l s e t j k n E stand h f more =
       let target = label c (j + gap b) k rest in
       let r = j + gap b in
       let a = skips b target in
@@ -186,7 +238,7 @@ module _ (core : List CoreOp) (entry : ℕ → ℕ) (may_call : (in_group : Bool
       let others = more r (has_back core j r (skip b target) (flat entry near c r k rest) to h) first.1 in
       let far : j + (gap b + extent near rest) ≡ r + extent near rest = omega arith in (
         right_both j r (skip_mark b s) (marks sys near l s rest e t) (ap (λ x. j + x) (sym (skip_length b s))) first.0 others.0,
-        moved (r + extent near rest) (j + (gap b + extent near rest)) n far others.1,
+        moved_to E (r + extent near rest) (j + (gap b + extent near rest)) far others.1,
       )
 
   not_into : (op : Operation) → (way_of op ≡ w.straight) ⊎ (way_of op ≡ w.onto) → way_of op ≡ w.into → ⊥
@@ -222,71 +274,125 @@ module _ (core : List CoreOp) (entry : ℕ → ℕ) (may_call : (in_group : Bool
   no_end o.End a = absurd (cc)
   no_end op a = refl
 
+  part_ends : (op : Operation) (E G : Type 0) → way_of op ≡ w.onto → Either (ends_part op) E G → E
+  part_ends o.End E G a either = either
+  part_ends op E G a either = absurd (let z = a in cc)
+
   goes_on : (b : Bool) (E G : Type 0) → b ≡ false → Either b E G → G
   goes_on true E G a either = absurd (true≢false a)
   goes_on false E G a either = either
 
   performed : (op : Operation) (rest : Code ℕ) (near : Bool) (c : Around) (l : Option (Loop sys)) (s e : sys.State) (t : Judged sys l (sys.behind op true s) rest e) (i k : ℕ) (n : Parts) (who : Who)
-      (part : Bool) (x : Exits) → (way_of op ≡ w.straight) ⊎ ((way_of op ≡ w.onto) × (is_done rest ≡ true))
+      (part : Bool) (x : Exits) (E : ℕ → Type 0) → (way_of op ≡ w.straight) ⊎ ((way_of op ≡ w.onto) × (is_done rest ≡ true))
       → Either (ends_part op) ((part ≡ true) × (x.tests ≡ false) × (rest ≡ done)) (Shape part false x rest)
       → Has core (suc i) (skip (goes_away (way_of op) || begins_here near rest) (label c (suc i + gap (goes_away (way_of op) || begins_here near rest)) k rest)
       ++ flat entry near c (suc i + gap (goes_away (way_of op) || begins_here near rest)) k rest)
-      → Stands who s n → Behind (suc i) n → (Shape part false x rest → Stands who (sys.behind op true s) n → Goes rest near c l (sys.behind op true s) e t k n)
+      → MayBeIn op (place s) → Stands who s n → Behind (suc i) (past (Some op) n)
+      → (way_of op ≡ w.straight → Shape part false x rest → Stands who (sys.behind op true s) (past (Some op) n) → Goes rest near c l (sys.behind op true s) e t k (past (Some op) n) E)
+      → (way_of op ≡ w.onto → part ≡ true → E (suc i))
       → AreRight (suc i) (skip_mark (goes_away (way_of op) || begins_here near rest) (sys.behind op true s) ++ marks sys near l (sys.behind op true s) rest e t)
-      × Behind (suc i + (gap (goes_away (way_of op) || begins_here near rest) + extent near rest)) n
-  performed op rest near c l s e t i k n who part x (inl a) either h stand g more =
+      × E (suc i + (gap (goes_away (way_of op) || begins_here near rest) + extent near rest))
+  performed op rest near c l s e t i k n who part x E (inl a) either h may stand g more end =
       let r = sys.behind op true s in
-      let stand' = stand_at who (place r) (place_behind op true (place s)) n (keeps.behind op true s) (straight_on who op (place s) n a stand) in
-      falls (goes_away (way_of op) || begins_here near rest) rest near c l r e t (suc i) k n stand'.is h g (more (goes_on (ends_part op) _ _ (no_end op a) either) stand')
-  performed op rest near c l s e t i k n who part x (inr a) either h stand g more =
+      let stand' = stand_at who (place r) (place_behind op true (place s)) (past (Some op) n) (keeps.behind op true s) (straight_on who op (place s) n a may stand) in
+      falls (goes_away (way_of op) || begins_here near rest) rest near c l r e t (suc i) k (past (Some op) n) E stand'.is h g (more a (goes_on (ends_part op) _ _ (no_end op a) either) stand')
+  performed op rest near c l s e t i k n who part x E (inr a) either h may stand g more end =
       let r = sys.behind op true s in
       let b : (goes_away (way_of op) || begins_here near rest) ≡ true = ap (λ z. goes_away z || begins_here near rest) a.0 in
-      let others = counted_done rest a.1 near l r e t (suc i) n g in
+      let others = counted_done rest a.1 near l r e t (suc i) E (end a.0 (part_ends op ((part ≡ true) × (x.tests ≡ false) × (rest ≡ done)) (Shape part false x rest) a.0 either).0) in
       let far : suc i + (0 + extent near rest) ≡ suc i + extent near rest = omega arith in (
         subst (λ z. AreRight (suc i) (skip_mark z r ++ marks sys near l r rest e t)) (sym b) others.0,
-        ap (λ z. come (suc i + (gap z + extent near rest))) b ∙ moved (suc i + extent near rest) (suc i + (0 + extent near rest)) n far others.1,
+        subst (λ z. E (suc i + (gap z + extent near rest))) (sym b) (moved_to E (suc i + extent near rest) (suc i + (0 + extent near rest)) far others.1),
       )
 
-  -- the second way of a choice
-  second_way : (op : Operation) (y : Code ℕ) (after' : Bool) (c : Around) (l : Option (Loop sys)) (s u : sys.State) (t : Judged sys l (sys.behind op false s) y u) (r next : ℕ) (n : Parts) (who : Who)
-      → Stand who (place_behind op false (place s)) n ⊎ (waits op ≡ true) → (waits op ≡ true → y ≡ done) → Behind r n
-      → (Stands who (sys.behind op false s) n → Counted after' l (sys.behind op false s) y u t r n) → Counted after' l (sys.behind op false s) y u t r n
-  second_way op y after' c l s u t r next n who (inl a) empty g more =
-      more (stand_at who (place (sys.behind op false s)) (place_behind op false (place s)) n (keeps.behind op false s) a)
-  second_way op y after' c l s u t r next n who (inr a) empty g more = counted_done y (ap is_done (empty a)) after' l (sys.behind op false s) u t r n g
+  -- the second way of a choice, and what is open behind it
+  abbrev Comes : Operation → Parts → ℕ → Type 0
+  Comes op n r = (m : Parts) × Behind r m × Enters (splits op) m n
 
-  -- what stands behind a loop
-  onward_of : (b : Bool) (part : Bool) (x : Exits) (rest : Code ℕ) → Either b ((part ≡ true) × (x.tests ≡ false) × (rest ≡ done)) (Shape part false x rest) → (Shape part false x rest) ⊎ (is_done rest ≡ true)
-  onward_of true part x rest a = inr (ap is_done a.2)
-  onward_of false part x rest a = inl a
+  second_way : (op : Operation) (y : Code ℕ) (after' : Bool) (l : Option (Loop sys)) (s u : sys.State) (t : Judged sys l (sys.behind op false s) y u) (r : ℕ) (n : Parts) (who : Who) (only : Bool) → is_chosen op ≡ true
+      → Stand who (place_behind op false (place s)) (past (Some op) n) ⊎ (waits op ≡ true) → (waits op ≡ true → y ≡ done) → Enters (splits op) (past (Some op) n) n
+      → Ended (splits op) (under op only) (past (Some op) n) r
+      → (Stands who (sys.behind op false s) (past (Some op) n) → Behind r (past (Some op) n)
+      → Counted after' l (sys.behind op false s) y u t r (Ended (has_two_parts op) (under op only) (past (Some op) n)))
+      → Counted after' l (sys.behind op false s) y u t r (Comes op n)
+  second_way (o.Branch onward) y after' l s u t r n who only chosen (inl a) empty fits g more =
+      let op = o.Branch onward in
+      let two = more (stand_at who (place (sys.behind op false s)) (place_behind op false (place s)) (past (Some op) n) (keeps.behind op false s) a) g in
+      (two.0, (past (Some op) n, two.1, fits))
+  second_way (o.Branch onward) y after' l s u t r n who only chosen (inr a) empty fits g more = untrue a
+  second_way (o.Split sk.IfElse) y after' l s u t r n who only chosen (inl a) empty fits g more =
+      let op = o.Split sk.IfElse in
+      let n' = past (Some op) n in
+      let two =
+      more (stand_at who (place (sys.behind op false s)) (place_behind op false (place s)) n' (keeps.behind op false s) a)
+      (g.1 ∙ ap (λ words. fold (worded words n') false) (g.2 refl)) in
+      (two.0, (worded two.1.0 n', two.1.1, fits))
+  second_way (o.Split sk.IfElse) y after' l s u t r n who only chosen (inr a) empty fits g more = untrue a
+  second_way (o.Split by) y after' l s u t r n who only chosen either empty fits g more =
+      let op = o.Split by in
+      counted_done y (ap is_done (empty refl)) after' l (sys.behind op false s) u t r (Comes op n) (worded g.0 (past (Some op) n), g.1, fits)
+  second_way o.Begin y after' l s u t r n who only chosen either empty fits g more =
+      counted_done y (ap is_done (empty refl)) after' l (sys.behind o.Begin false s) u t r (Comes o.Begin n) (worded g.0 (past (Some o.Begin) n), g.1, fits)
+  second_way o.Farm y after' l s u t r n who only chosen either empty fits g more =
+      counted_done y (ap is_done (empty refl)) after' l (sys.behind o.Farm false s) u t r (Comes o.Farm n) (past (Some o.Farm) n, g, fits)
+  second_way o.Seq y after' l s u t r n who only chosen either empty fits g more =
+      counted_done y (ap is_done (empty refl)) after' l (sys.behind o.Seq false s) u t r (Comes o.Seq n) (past (Some o.Seq) n, g, fits)
+  second_way op y after' l s u t r n who only chosen either empty fits g more = untrue chosen
 
-  left_behind : (round : Loop sys) (rest : Code ℕ) (near : Bool) (l : Option (Loop sys)) (s e : sys.State) (t : Judged sys l round.left rest e) (r : ℕ) (n : Parts) (who : Who) (part : Bool) (x : Exits)
-      → sys.Grants s round.turn → sys.Stands round.left round.turn ⊎ (is_done rest ≡ true) → (Shape part false x rest) ⊎ (is_done rest ≡ true) → Stands who s n → Behind r n
-      → (Shape part false x rest → Stands who round.left n → Counted near l round.left rest e t r n) → Counted near l round.left rest e t r n
-  left_behind round rest near l s e t r n who part x granted (inr a) shape stand g more = counted_done rest a near l round.left e t r n g
-  left_behind round rest near l s e t r n who part x granted (inl a) (inr b) stand g more = counted_done rest b near l round.left e t r n g
-  left_behind round rest near l s e t r n who part x granted (inl a) (inl b) stand g more =
+  -- what stands behind a loop. Nothing stands behind one that shrinks
+  onward_of : (b : Bool) (part : Bool) (x : Exits) (rest : Code ℕ) (only : Bool) → (b ≡ true → only ≡ true) → Either b ((part ≡ true) × (x.tests ≡ false) × (rest ≡ done)) (Shape part false x rest)
+      → (Shape part false x rest) ⊎ ((is_done rest ≡ true) × (only ≡ true))
+  onward_of true part x rest only shrinks a = inr (ap is_done a.2, shrinks refl)
+  onward_of false part x rest only shrinks a = inl a
+
+  no_part_behind : (part : Bool) (x : Exits) (rest : Code ℕ) → is_done rest ≡ true → Shape part false x rest → part ≡ false
+  no_part_behind part x rest is shape = by_done (λ code. Shape part false x code → part ≡ false) rest is (λ shape'. shape'.1) shape
+
+  left_behind : (round : Loop sys) (rest : Code ℕ) (near : Bool) (l : Option (Loop sys)) (s e : sys.State) (t : Judged sys l round.left rest e) (r : ℕ) (n : Parts) (who : Who) (part only : Bool) (x : Exits)
+      → sys.Grants s round.turn → sys.Stands round.left round.turn ⊎ (is_done rest ≡ true) → (Shape part false x rest) ⊎ ((is_done rest ≡ true) × (only ≡ true)) → Stands who s n → Behind r n
+      → (Shape part false x rest → Stands who round.left n → Counted near l round.left rest e t r (Ended part only n)) → Counted near l round.left rest e t r (Ended part only n)
+  left_behind round rest near l s e t r n who part only x granted stands (inr b) stand g more = counted_done rest b.0 near l round.left e t r (Ended part only n) (ended_only part only n r b.1 g)
+  left_behind round rest near l s e t r n who part only x granted (inr a) (inl b) stand g more =
+      counted_done rest a near l round.left e t r (Ended part only n) (ended_no_part part only n r (no_part_behind part x rest a b) g)
+  left_behind round rest near l s e t r n who part only x granted (inl a) (inl b) stand g more =
       more b (stand_at who (place round.left) (place s) n (keeps.stands round.left round.turn a ∙ sym (keeps.grants s round.turn granted)) stand)
 
-  pub walk : (code : Code ℕ) (near : Bool) (c : Around) (l : Option (Loop sys)) (s e : sys.State) (i k : ℕ) (m n : Parts) (who : Who) (resuming in_loop part closing : Bool) (x : Exits) (in_split : Bool)
+  -- the second part of a split begins like the first one
+  in_second : (op : Operation) (y : Code ℕ) → is_chosen op ≡ true → (waits op ≡ true → y ≡ done) → FramesIn (splits op) y → FramesIn (has_two_parts op) y
+  in_second (o.Branch onward) y chosen empty frames = frames
+  in_second (o.Split sk.IfElse) y chosen empty frames = frames
+  in_second (o.Split by) y chosen empty frames = subst (λ (code : Code ℕ). FramesIn false code) (sym (empty refl)) tt
+  in_second o.Begin y chosen empty frames = subst (λ (code : Code ℕ). FramesIn false code) (sym (empty refl)) tt
+  in_second o.Farm y chosen empty frames = frames
+  in_second o.Seq y chosen empty frames = frames
+  in_second op y chosen empty frames = untrue chosen
+
+  pub walk : (code : Code ℕ) (near : Bool) (c : Around) (l : Option (Loop sys)) (s e : sys.State) (i k : ℕ) (m n : Parts) (who : Who) (resuming in_loop part closing : Bool) (x : Exits) (in_split first : Bool)
       → IsShaped has_body in_loop code → Shape part closing x code → Placed may_call who resuming code → (t : Judged sys l s code e) → Has core i (flat entry near c i k code)
-      → ShrinksIn in_split code → (in_split ≡ true → 1 ≤ n.levels) → Stands who s n → Enters resuming m n → Behind i m → Counted near l s code e t i n
-  walk done near c l s e i k m n who resuming in_loop part closing x in_split shaped shape placed t h shrinks deep stand fits f =
-      (tt, moved i (i + 0) n (omega arith) (f ∙ ap (λ z. fold z false) (not_resuming resuming m n placed fits)))
-  walk (perform site op rest) near c l s e i k m n who resuming in_loop part closing x in_split shaped shape placed t h shrinks deep stand fits f =
+      → ShrinksIn in_split code → FramesIn first code → (first ≡ true → part ≡ true) → (in_split ≡ true → 1 ≤ n.levels) → Stands who s n → Enters resuming m n → Behind i m
+      → Counted near l s code e t i (Ended part in_split n)
+  walk done near c l s e i k m n who resuming in_loop part closing x in_split first shaped shape placed t h shrinks frames heads deep stand fits f =
+      (tt, moved_to (Ended part in_split n) i (i + 0) (omega arith) (ended_no_part part in_split n i shape.1 (f ∙ ap (λ z. fold z false) (not_resuming resuming m n placed fits))))
+  walk (perform site op rest) near c l s e i k m n who resuming in_loop part closing x in_split first shaped shape placed t h shrinks frames heads deep stand fits f =
       let here' = goes_away (way_of op) || begins_here near rest in
       let r = sys.behind op true s in
       let ways' = performs_by op rest shaped.0 in
       let mine = one resuming op m n placed.0 fits in
-      let onward : Behind (suc i) n = act_goes i site m false op (aim (way_of op) k) h.0 f ∙ ap (λ z. fold (past (Some op) z) (enters false (Some op))) mine
-      ∙ ap (λ z. fold z (enters false (Some op))) (after_straight op n ways') ∙ ap (fold n) (no_enter op false (not_into op ways')) in
-      let both = performed op rest near c l s e t.1 i k n who part x shaped.0 shape.2 h.1 stand onward
-      (λ shape' stand' j there g. walk rest near c l r e j k n n who false in_loop part false x in_split shaped.1 shape' placed.1 t.1 there shrinks deep stand' refl g) in
+      let n' = past (Some op) n in
+      let onward : Behind (suc i) n' = act_goes i site m false op (aim (way_of op) k) h.0 f ∙ ap (λ z. fold (past (Some op) z) (enters false (Some op))) mine
+      ∙ ap (fold n') (no_enter op false (not_into op ways')) in
+      let none_taken : part ≡ false → takes_in_part op ≡ true → ⊥ = λ free takes. true≢false (sym (heads (frames.0 takes)) ∙ free) in
+      let both = performed op rest near c l s e t.1 i k n who part x (Ended part in_split n) shaped.0 shape.2 h.1 (keeps.may op s t.0) stand onward
+      (λ straight shape' stand' j there g.
+      let deep' : in_split ≡ true → 1 ≤ n'.levels = λ is. subst (λ (y : Parts). 1 ≤ y.levels) (sym (straight_worded op n 0 straight)) (deep is) in
+      let more = walk rest near c l r e j k n' n' who false in_loop part false x in_split false shaped.1 shape' placed.1 t.1 there shrinks frames.1 (λ is. untrue is) deep' stand' refl g in
+      (more.0, ended_with part in_split n' n (j + extent near rest) (λ free. after_straight op n straight (none_taken free)) (λ words. straight_worded op n words straight) more.1))
+      (λ onto is. ended_part part in_split n (suc i) is (onward ∙ ap (λ z. fold z false) (after_onto op n onto))) in
       let far : i + suc (gap here' + extent near rest) ≡ suc i + (gap here' + extent near rest) = omega arith in (
         ((act_told i site m op (aim (way_of op) k) h.0 f ∙ mine ∙ sym stand.is, act_says i site op (aim (way_of op) k) s h.0 (says_performed op (place s) ways')), both.0),
-        moved (suc i + (gap here' + extent near rest)) (i + suc (gap here' + extent near rest)) n far both.1,
+        moved_to (Ended part in_split n) (suc i + (gap here' + extent near rest)) (i + suc (gap here' + extent near rest)) far both.1,
       )
-  walk (choose site op x' y rest) near c l s e i k m n who resuming in_loop part closing x in_split shaped shape placed t h shrinks deep stand fits f =
+  walk (choose site op x' y rest) near c l s e i k m n who resuming in_loop part closing x in_split first shaped shape placed t h shrinks frames heads deep stand fits f =
       let q = choice_at entry x' y rest near c i k in
       let has = has_choice entry core x' y rest near c i k h.1 in
       let u = t.1 in
@@ -309,21 +415,23 @@ module _ (core : List CoreOp) (entry : ℕ → ℕ) (may_call : (in_group : Bool
       ∙ ap (fold n') (no_enter op false (either_into op shaped.0)) in
       let stand_a = stand_at (who_in who op) (place a) (place_behind op true (place s)) n' (keeps.behind op true s) two.first in
       let before = skipped q.here (suc i) (label c q.first q.next x') a n' stand_a.is (has_front core (suc i) q.jumps q.firsts has.begins) onward in
-      let firsts = walk x' q.beside c l a u q.first q.next n' n' (who_in who op) false in_loop (splits op) false (of_way op x) (under op in_split) shaped.1 shape.2 placed.2 t.2 has.first shrinks.0 (two.deep in_split deep) stand_a refl before.1 in
-      let seconds = second_way op y q.after c l s u t.3 q.second q.next n' (who_in who op) two.second shape.4 firsts.1
-      (λ stand_b. walk y q.after c l b u q.second q.next n' n' (who_in who op) false in_loop (has_two_parts op) false (of_way op x) (under op in_split) shaped.2 shape.3 placed.3 t.3 has.second
-      shrinks.1 (two.deep in_split deep) stand_b refl firsts.1) in
+      let firsts = walk x' q.beside c l a u q.first q.next n' n' (who_in who op) false in_loop (splits op) false (of_way op x) (under op in_split) (splits op) shaped.1 shape.2 placed.2 t.2 has.first
+      shrinks.0 frames.0 (λ is. is) (two.deep in_split deep) stand_a refl before.1 in
+      let seconds = second_way op y q.after l s u t.3 q.second n (who_in who op) in_split shape.1 two.second shape.4 two.behind firsts.1
+      (λ stand_b g. walk y q.after c l b u q.second q.next n' n' (who_in who op) false in_loop (has_two_parts op) false (of_way op x) (under op in_split) (has_two_parts op) shaped.2 shape.3 placed.3 t.3 has.second
+      shrinks.1 (in_second op y shape.1 shape.4 frames.1) (λ is. is) (two.deep in_split deep) stand_b refl g) in
       let stand_u = stand_at who (place u) (place s) n (keeps.stands u s t.5) stand in
-      let others = walk rest near c l u e q.behind k n' n who (splits op) in_loop part (opens_body op) x in_split shaped.3 shape.6 placed.5 t.4 has.others shrinks.2 deep stand_u two.behind seconds.1 in
+      let others = walk rest near c l u e q.behind k seconds.1.0 n who (splits op) in_loop part (opens_body op) x in_split false shaped.3 shape.6 placed.5 t.4 has.others shrinks.2 frames.2 (λ is. untrue is) deep
+      stand_u seconds.1.2 seconds.1.1 in
       let far : i + suc (gap q.here + extent q.beside x' + extent q.after y + extent near rest) ≡ q.behind + extent near rest = omega arith in (
         (
           (act_told i site m op (label c q.second q.next y) h.0 f ∙ mine ∙ sym stand.is, act_says i site op (label c q.second q.next y) s h.0 two.says),
           right_both (suc i) q.behind ((js ++ xs) ++ ys) zs (omega arith)
               (right_both (suc i) q.second (js ++ xs) ys (omega arith) (right_both (suc i) q.first js xs (omega arith) before.0 firsts.0) seconds.0) others.0,
         ),
-        moved (q.behind + extent near rest) (i + suc (gap q.here + extent q.beside x' + extent q.after y + extent near rest)) n far others.1,
+        moved_to (Ended part in_split n) (q.behind + extent near rest) (i + suc (gap q.here + extent q.beside x' + extent q.after y + extent near rest)) far others.1,
       )
-  walk (while test body last rest) near c l s e i k m n who resuming in_loop part closing x in_split shaped shape placed t h shrinks deep stand fits f =
+  walk (while test body last rest) near c l s e i k m n who resuming in_loop part closing x in_split first shaped shape placed t h shrinks frames heads deep stand fits f =
       let q = turns_at entry test body last rest near c i k in
       let has = has_turns entry core test body last rest near c i k h in
       let round = t.0 in
@@ -339,17 +447,18 @@ module _ (core : List CoreOp) (entry : ℕ → ℕ) (may_call : (in_group : Bool
       let e2 = length-append (ts ++ bs) ss in
       let g = f ∙ ap (λ z. fold z false) (not_resuming resuming m n placed.0 fits) in
       let turns = stand_at (inner who) (place b) (place s) n (sym (keeps.grants s b t.1)) (stand_inner who (place s) n stand) in
-      let tests = walk test q.enters (Some q.loop) (Some round) b b i q.enter n n (inner who) false true false false (of_test shape.1) in_split shaped.2 shape.2 placed.1 t.2 has.test shrinks.0 deep turns refl g in
-      let bodies = walk body q.steps (Some q.loop) (Some round) b b q.body q.loop.onward n n (inner who) false true false false (of_turn shape.1 x) in_split shaped.3 shape.3 placed.2 t.3 has.body shrinks.1 deep turns refl tests.1 in
-      let lasts = walk last false (Some q.loop) (Some round) b b q.step i n n (inner who) false true false false sh.none in_split shaped.4 shape.4 placed.3 t.4 has.step shrinks.2 deep turns refl bodies.1 in
-      let others = left_behind round rest near l s e t.5 q.behind n who part x t.1 t.6 (onward_of shape.1 part x rest shape.5) stand lasts.1
-      (λ shape' there. walk rest near c l round.left e q.behind k n n who false in_loop part false x in_split shaped.5 shape' placed.4 t.5 has.others shrinks.3 deep there refl lasts.1) in
+      let tests = walk test q.enters (Some q.loop) (Some round) b b i q.enter n n (inner who) false true false false (of_test shape.1) in_split false shaped.2 shape.2 placed.1 t.2 has.test shrinks.0 frames.0 (λ is. untrue is) deep turns refl g in
+      let bodies = walk body q.steps (Some q.loop) (Some round) b b q.body q.loop.onward n n (inner who) false true false false (of_turn shape.1 x) in_split false shaped.3 shape.3 placed.2 t.3 has.body shrinks.1 frames.1 (λ is. untrue is) deep turns refl tests.1 in
+      let lasts = walk last false (Some q.loop) (Some round) b b q.step i n n (inner who) false true false false sh.none in_split false shaped.4 shape.4 placed.3 t.4 has.step shrinks.2 frames.2 (λ is. untrue is) deep turns refl bodies.1 in
+      let only : shape.1 ≡ true → in_split ≡ true = λ is. test_shrinks test shape.1 false in_split is shape.2 shrinks.0 in
+      let others = left_behind round rest near l s e t.5 q.behind n who part in_split x t.1 t.6 (onward_of shape.1 part x rest in_split only shape.5) stand lasts.1
+      (λ shape' there. walk rest near c l round.left e q.behind k n n who false in_loop part false x in_split false shaped.5 shape' placed.4 t.5 has.others shrinks.3 frames.3 (λ is. untrue is) deep there refl lasts.1) in
       let far : i + (extent q.enters test + extent q.steps body + extent false last + extent near rest) ≡ q.behind + extent near rest = omega arith in (
         right_both i q.behind ((ts ++ bs) ++ ss) rs (omega arith)
             (right_both i q.step (ts ++ bs) ss (omega arith) (right_both i q.body ts bs (omega arith) tests.0 bodies.0) lasts.0) others.0,
-        moved (q.behind + extent near rest) (i + (extent q.enters test + extent q.steps body + extent false last + extent near rest)) n far others.1,
+        moved_to (Ended part in_split n) (q.behind + extent near rest) (i + (extent q.enters test + extent q.steps body + extent false last + extent near rest)) far others.1,
       )
-  walk (until body test rest) near c l s e i k m n who resuming in_loop part closing x in_split shaped shape placed t h shrinks deep stand fits f =
+  walk (until body test rest) near c l s e i k m n who resuming in_loop part closing x in_split first shaped shape placed t h shrinks frames heads deep stand fits f =
       let q = rounds_at entry body test rest near c i k in
       let has = has_rounds entry core body test rest near c i k h in
       let round = t.0 in
@@ -362,33 +471,35 @@ module _ (core : List CoreOp) (entry : ℕ → ℕ) (may_call : (in_group : Bool
       let e1 = length-append bs ts in
       let g = f ∙ ap (λ z. fold z false) (not_resuming resuming m n placed.0 fits) in
       let turns = stand_at (inner who) (place b) (place s) n (sym (keeps.grants s b t.1)) (stand_inner who (place s) n stand) in
-      let bodies = walk body true (Some q.loop) (Some round) b b i q.test n n (inner who) false true false false (of_turn shape.1 x) in_split shaped.1 shape.3 placed.1 t.2 has.body shrinks.0 deep turns refl g in
-      let tests = walk test false (Some q.loop) (Some round) b b q.test q.enter n n (inner who) false true false false (of_test shape.1) in_split shaped.2 shape.2 placed.2 t.3 has.test shrinks.1 deep turns refl bodies.1 in
-      let others = left_behind round rest near l s e t.4 q.behind n who part x t.1 t.5 (onward_of shape.1 part x rest shape.4) stand tests.1
-      (λ shape' there. walk rest near c l round.left e q.behind k n n who false in_loop part false x in_split shaped.3 shape' placed.3 t.4 has.others shrinks.2 deep there refl tests.1) in
+      let bodies = walk body true (Some q.loop) (Some round) b b i q.test n n (inner who) false true false false (of_turn shape.1 x) in_split false shaped.1 shape.3 placed.1 t.2 has.body shrinks.0 frames.0 (λ is. untrue is) deep turns refl g in
+      let tests = walk test false (Some q.loop) (Some round) b b q.test q.enter n n (inner who) false true false false (of_test shape.1) in_split false shaped.2 shape.2 placed.2 t.3 has.test shrinks.1 frames.1 (λ is. untrue is) deep turns refl bodies.1 in
+      let only : shape.1 ≡ true → in_split ≡ true = λ is. test_shrinks test shape.1 false in_split is shape.2 shrinks.1 in
+      let others = left_behind round rest near l s e t.4 q.behind n who part in_split x t.1 t.5 (onward_of shape.1 part x rest in_split only shape.4) stand tests.1
+      (λ shape' there. walk rest near c l round.left e q.behind k n n who false in_loop part false x in_split false shaped.3 shape' placed.3 t.4 has.others shrinks.2 frames.2 (λ is. untrue is) deep there refl tests.1) in
       let far : i + (extent true body + extent false test + extent near rest) ≡ q.behind + extent near rest = omega arith in (
         right_both i q.behind (bs ++ ts) rs (omega arith) (right_both i q.test bs ts (omega arith) bodies.0 tests.0) others.0,
-        moved (q.behind + extent near rest) (i + (extent true body + extent false test + extent near rest)) n far others.1,
+        moved_to (Ended part in_split n) (q.behind + extent near rest) (i + (extent true body + extent false test + extent near rest)) far others.1,
       )
-  walk (turn a b d rest) near c l s e i k m n who resuming in_loop part closing x in_split shaped shape placed t h shrinks deep stand fits f = absurd shape
-  walk (again a b d rest) near c l s e i k m n who resuming in_loop part closing x in_split shaped shape placed t h shrinks deep stand fits f = absurd shape
-  walk (quit site op rest) near c l s e i k m n who resuming in_loop part closing x in_split shaped shape placed t h shrinks deep stand fits f =
+  walk (turn a b d rest) near c l s e i k m n who resuming in_loop part closing x in_split first shaped shape placed t h shrinks frames heads deep stand fits f = absurd shape
+  walk (again a b d rest) near c l s e i k m n who resuming in_loop part closing x in_split first shaped shape placed t h shrinks frames heads deep stand fits f = absurd shape
+  walk (quit site op rest) near c l s e i k m n who resuming in_loop part closing x in_split first shaped shape placed t h shrinks frames heads deep stand fits f =
       let b = begins_here near rest in
       let r = sys.behind op true s in
       let mine = either_here op m shaped.1 ∙ not_resuming resuming m n placed.0 fits in
       let onward : Behind (suc i) n = act_goes i site m false op (behind c) h.0 f ∙ ap (λ z. fold (past (Some op) z) (enters false (Some op))) mine
       ∙ ap (λ z. fold z (enters false (Some op))) (after_quit op n shape.1) ∙ ap (fold n) (no_enter op false (either_into op shaped.1)) in
       let stand' = stand_at who (place r) (place_behind op true (place s)) n (keeps.behind op true s) (quit_on who op (place s) n shape.1 stand) in
-      let both = falls b rest near c l r e t.2 (suc i) k n stand'.is h.1 onward (λ j there g. counted_done rest (ap is_done shape.5) near l r e t.2 j n g) in
+      let both = falls b rest near c l r e t.2 (suc i) k n (Ended part in_split n) stand'.is h.1 onward
+      (λ j there g. counted_done rest (ap is_done shape.5) near l r e t.2 j (Ended part in_split n) (ended_no_part part in_split n j shape.2 g)) in
       let far : i + suc (gap b + extent near rest) ≡ suc i + (gap b + extent near rest) = omega arith in (
         ((act_told i site m op (behind c) h.0 f ∙ mine ∙ sym stand.is, act_says i site op (behind c) s h.0 (says_quit who op (place s) n shape.1 (λ is. deep (shrinks.0 is)) stand)), both.0),
-        moved (suc i + (gap b + extent near rest)) (i + suc (gap b + extent near rest)) n far both.1,
+        moved_to (Ended part in_split n) (suc i + (gap b + extent near rest)) (i + suc (gap b + extent near rest)) far both.1,
       )
-  walk (break rest) near c l s e i k m n who resuming in_loop part closing x in_split shaped shape placed t h shrinks deep stand fits f =
-      walk rest near c l s e i k n n who false in_loop part false x in_split shaped.1 shape.2 placed.1 t.1 h shrinks deep stand refl (f ∙ ap (λ z. fold z false) (not_resuming resuming m n placed.0 fits))
-  walk (continue rest) near c l s e i k m n who resuming in_loop part closing x in_split shaped shape placed t h shrinks deep stand fits f =
-      walk rest near c l s e i k n n who false in_loop part false x in_split shaped.1 shape.2 placed.1 t.1 h shrinks deep stand refl (f ∙ ap (λ z. fold z false) (not_resuming resuming m n placed.0 fits))
-  walk (call site op function opening rest) near c l s e i k m n who resuming in_loop part closing x in_split shaped shape placed t h shrinks deep stand fits f =
+  walk (break rest) near c l s e i k m n who resuming in_loop part closing x in_split first shaped shape placed t h shrinks frames heads deep stand fits f =
+      walk rest near c l s e i k n n who false in_loop part false x in_split false shaped.1 shape.2 placed.1 t.1 h shrinks frames (λ is. untrue is) deep stand refl (f ∙ ap (λ z. fold z false) (not_resuming resuming m n placed.0 fits))
+  walk (continue rest) near c l s e i k m n who resuming in_loop part closing x in_split first shaped shape placed t h shrinks frames heads deep stand fits f =
+      walk rest near c l s e i k n n who false in_loop part false x in_split false shaped.1 shape.2 placed.1 t.1 h shrinks frames (λ is. untrue is) deep stand refl (f ∙ ap (λ z. fold z false) (not_resuming resuming m n placed.0 fits))
+  walk (call site op function opening rest) near c l s e i k m n who resuming in_loop part closing x in_split first shaped shape placed t h shrinks frames heads deep stand fits f =
       let q = entering_at entry function opening rest near c i k in
       let has = has_entering entry core function opening rest near c i k h.1 in
       let begin = sys.begin op function t.1 in
@@ -409,7 +520,7 @@ module _ (core : List CoreOp) (entry : ℕ → ℕ) (may_call : (in_group : Bool
       let jumps = jump_goes q.back n (entry function) true has.jumps.0 openings.1 in
       let stand' = stand_at who (place r) (place s) n (keeps.calls op t.1 s) stand in
       let before = skipped q.here (suc q.back) q.next r n stand'.is has.jumps.1 jumps in
-      let others = walk rest near c l r e q.behind k n n who false in_loop part false x in_split shaped.3 shape.3 placed.4 t.4 has.others shrinks deep stand' refl before.1 in
+      let others = walk rest near c l r e q.behind k n n who false in_loop part false x in_split false shaped.3 shape.3 placed.4 t.4 has.others shrinks frames (λ is. untrue is) deep stand' refl before.1 in
       let ls = skip_length q.here r in
       let e1 = length-append os (en ∷ skip_mark q.here r) in
       let far : i + suc (suc (extent true opening + gap q.here + extent near rest)) ≡ q.behind + extent near rest = omega arith in (
@@ -419,9 +530,9 @@ module _ (core : List CoreOp) (entry : ℕ → ℕ) (may_call : (in_group : Bool
               (right_both (suc i) q.back os (en ∷ skip_mark q.here r) (omega arith) openings.0 ((opening_told q.back n (jump (entry function)) has.jumps.0 openings.1 ∙ sym inside'.is, jump_says q.back (entry function) en has.jumps.0), before.0))
               others.0,
         ),
-        moved (q.behind + extent near rest) (i + suc (suc (extent true opening + gap q.here + extent near rest))) n far others.1,
+        moved_to (Ended part in_split n) (q.behind + extent near rest) (i + suc (suc (extent true opening + gap q.here + extent near rest))) far others.1,
       )
-  walk (ends site op rest) near c l s e i k m n who resuming in_loop part closing x in_split shaped shape placed t h shrinks deep stand fits f =
+  walk (ends site op rest) near c l s e i k m n who resuming in_loop part closing x in_split first shaped shape placed t h shrinks frames heads deep stand fits f =
       let r = sys.behind op true s in
       let first = out_here op m shaped.0 in
       let same = not_resuming resuming m n placed.0 fits in
@@ -429,8 +540,8 @@ module _ (core : List CoreOp) (entry : ℕ → ℕ) (may_call : (in_group : Bool
       let onward : Behind (suc i) n = act_goes i site m false op 0 h.0 f ∙ ap (λ z. fold (past (Some op) z) (enters false (Some op))) mine
       ∙ ap (λ z. fold z (enters false (Some op))) (out_here op n shaped.0).1 ∙ ap (fold n) (no_enter op false (out_into op shaped.0)) in
       let stand' = stand_at who (place r) (place_behind op true (place s)) n (keeps.behind op true s) (out_on who op (place s) n shaped.0 stand) in
-      let others = walk rest near c l r e (suc i) k n n who false in_loop part false x in_split shaped.1 shape.3 placed.2 t.2 h.1 shrinks deep stand' refl onward in
+      let others = walk rest near c l r e (suc i) k n n who false in_loop part false x in_split false shaped.1 shape.3 placed.2 t.2 h.1 shrinks frames (λ is. untrue is) deep stand' refl onward in
       let far : i + suc (extent near rest) ≡ suc i + extent near rest = omega arith in (
         ((act_told i site m op 0 h.0 f ∙ mine ∙ sym stand.is, act_says i site op 0 s h.0 (says_out op (place s) shaped.0)), others.0),
-        moved (suc i + extent near rest) (i + suc (extent near rest)) n far others.1,
+        moved_to (Ended part in_split n) (suc i + extent near rest) (i + suc (extent near rest)) far others.1,
       )

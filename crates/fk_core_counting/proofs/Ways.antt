@@ -12,18 +12,35 @@ use Rattle.fk_core_liveness.specs.declared.places.FunctionKind.{FunctionKind}
 use Rattle.fk_core_liveness.specs.declared.places.FunctionKind.TheVariants.{Main, Called}
 use Rattle.fk_core_liveness.specs.Frames.{is_main_place}
 use Rattle.fk_core_typing.specs.Values.{Place, with_frame, entered, place_behind, MayBeIn}
-use Rattle.fk_lockstep_frames.specs.Nests.{Nest, OfFunction, OfPart, nesting, levels_of}
+use Rattle.fk_lockstep_frames.specs.Nests.{Nest, OfFunction, OfPart, nesting, levels_of, left_by_fork, words_in_part, MayTake}
 use Rattle.fk_lockstep_structure.specs.Placed.{Who, OfGroup, OfBody, OfMain, is_main, inner, who_in, may_perform, may_choose}
-use Rattle.fk_core_levels.specs.Count.{here, enters}
-use Rattle.fk_core_counting.specs.Laws.{under}
-use Rattle.fk_core_counting.proofs.Folding.{Parts, parts, none, at, past}
+use Rattle.fk_core_levels.specs.Count.{here, after, inside, enters}
+use Rattle.fk_core_levels.specs.Forks.{OpenPart, Parts as OpenParts, taken, left_by}
+use Rattle.fk_core_counting.specs.Laws.{under, takes_in_part}
+use Rattle.fk_core_counting.proofs.Folding.{Parts, parts, none, at, past, worded}
 
 -- the levels in the frame of a call at a place, and the parts around it
 abbrev pub levels_at : Place → ℕ
 levels_at p = levels_of (is_main_place p.function) p.nests
 
+-- the parts of a call that are open, as its nests have them
+abbrev pub open_by : (levels : ℕ) → OpenPart → List OpenPart → List OpenPart
+open_by zero part more = []
+open_by (suc n) part more = part ∷ more
+
+abbrev pub around_by : (numbered : Bool) → (around : List Nest) → OpenPart
+around_by numbered nests = record { fork = left_by_fork numbered nests; words = words_in_part nests }
+
+abbrev pub open_in : (main : Bool) → List Nest → List OpenPart
+open_in main [] = []
+open_in main (OfFunction frame ∷ nests) = []
+open_in main (OfPart numbered frame ∷ nests) = open_by (levels_of main (OfPart numbered frame ∷ nests)) (around_by numbered nests) (open_in main nests)
+
+abbrev pub forks_at : Place → OpenParts
+forks_at p = record { parts = open_in (is_main_place p.function) p.nests; words = words_in_part p.nests }
+
 abbrev pub parts_at : Place → Parts
-parts_at p = parts (levels_at p) (nesting p.nests)
+parts_at p = parts (levels_at p) (nesting p.nests) (forks_at p)
 
 -- so many they are. In `main` only those who are in the group of a `start` are in a group
 pub record Stand (who : Who) (p : Place) (k : Parts) : Type 0 where
@@ -80,26 +97,29 @@ says_out op p e = tt
 
 -- ---- one way
 
--- what goes straight on leaves the parts as they are
-pub straight_on : (who : Who) (op : Operation) (p : Place) (k : Parts) → way_of op ≡ w.straight → Stand who p k → Stand who (place_behind op true p) k
-straight_on who (o.Frame number words) p k e h = by p.nests h.is h.within
+-- what goes straight on leaves the parts as they are, and may take a frame in the innermost one
+pub straight_on : (who : Who) (op : Operation) (p : Place) (k : Parts) → way_of op ≡ w.straight → MayBeIn op p → Stand who p k → Stand who (place_behind op true p) (past (Some op) k)
+straight_on who (o.Frame number words) p k e may h = by p.nests may h.is h.within
   where
-    by : (nests : List Nest) → parts_at (record { function = p.function; nests = nests }) ≡ k → (is_main who ≡ false → is_main_place p.function ≡ true → 1 ≤ nesting nests)
-        → Stand who (place_behind (o.Frame number words) true (record { function = p.function; nests = nests })) k
-    by [] is within = record { is = is; within = within }
-    by (OfFunction frame ∷ nests) is within = record { is = is; within = within }
-    by (OfPart numbered frame ∷ nests) is within = record { is = is; within = within }
-straight_on who (o.Branch onward) p k e h = absurd (cc)
-straight_on who o.Begin p k e h = absurd (cc)
-straight_on who (o.Split by) p k e h = absurd (cc)
-straight_on who o.Shrink p k e h = absurd (cc)
-straight_on who o.Farm p k e h = absurd (cc)
-straight_on who o.Seq p k e h = absurd (cc)
-straight_on who o.End p k e h = absurd (cc)
-straight_on who (o.Enter arguments) p k e h = absurd (cc)
-straight_on who (o.Leave gives framed) p k e h = absurd (cc)
-straight_on who o.Halt p k e h = absurd (cc)
-straight_on who op p k e h = h
+    by : (nests : List Nest) → MayTake number nests → parts_at (record { function = p.function; nests = nests }) ≡ k → (is_main who ≡ false → is_main_place p.function ≡ true → 1 ≤ nesting nests)
+        → Stand who (place_behind (o.Frame number words) true (record { function = p.function; nests = nests })) (past (Some (o.Frame number words)) k)
+    by [] may is within = absurd may
+    by (OfFunction frame ∷ nests) may is within = record { is = is ∙ ap (λ n. parts k.levels k.around (taken n words k.forks)) (sym may.0); within = within }
+    by (OfPart numbered frame ∷ nests) may is within = record {
+      is = ap (λ (x : Parts). worded words x) is ∙ ap (λ n. parts k.levels k.around (taken n words k.forks)) (sym may.0);
+      within = within;
+    }
+straight_on who (o.Branch onward) p k e may h = absurd (cc)
+straight_on who o.Begin p k e may h = absurd (cc)
+straight_on who (o.Split by) p k e may h = absurd (cc)
+straight_on who o.Shrink p k e may h = absurd (cc)
+straight_on who o.Farm p k e may h = absurd (cc)
+straight_on who o.Seq p k e may h = absurd (cc)
+straight_on who o.End p k e may h = absurd (cc)
+straight_on who (o.Enter arguments) p k e may h = absurd (cc)
+straight_on who (o.Leave gives framed) p k e may h = absurd (cc)
+straight_on who o.Halt p k e may h = absurd (cc)
+straight_on who op p k e may h = h
 
 -- so does a test that goes on in its loop, and an operation that ends a function
 pub quit_on : (who : Who) (op : Operation) (p : Place) (k : Parts) → is_quit op ≡ true → Stand who p k → Stand who (place_behind op true p) k
@@ -128,12 +148,37 @@ resume_of o.Resume e = refl
 resume_of o.Halt e = untrue e
 resume_of op e = untrue e
 
-pub after_straight : (op : Operation) (k : Parts) → (way_of op ≡ w.straight) ⊎ (way_of op ≡ w.onto) → past (Some op) k ≡ k
-after_straight (o.Split by) k (inl e) = absurd (cc)
-after_straight (o.Split by) k (inr e) = absurd (cc)
-after_straight o.Begin k (inl e) = absurd (cc)
-after_straight o.Begin k (inr e) = absurd (cc)
-after_straight op k e = refl
+-- only a frame of a part changes what is open
+pub after_straight : (op : Operation) (k : Parts) → way_of op ≡ w.straight → (takes_in_part op ≡ true → ⊥) → past (Some op) k ≡ k
+after_straight (o.Split by) k e free = absurd (cc)
+after_straight o.Begin k e free = absurd (cc)
+after_straight o.End k e free = absurd (cc)
+after_straight (o.Frame zero words) k e free = refl
+after_straight (o.Frame (suc number) words) k e free = absurd (free refl)
+after_straight op k e free = refl
+
+-- outside of parts there is no such frame
+pub outside_parts : (op : Operation) (p : Place) → MayBeIn op p → nesting p.nests ≡ 0 → takes_in_part op ≡ true → ⊥
+outside_parts (o.Frame zero words) p may out takes = untrue takes
+outside_parts (o.Frame (suc number) words) p may out takes = by p.nests may out
+  where
+    by : (nests : List Nest) → MayTake (suc number) nests → nesting nests ≡ 0 → ⊥
+    by [] may' out' = may'
+    by (nest ∷ nests) may' out' = let e = may'.0 in omega (arith, e, out')
+outside_parts op p may out takes = untrue takes
+
+pub straight_worded : (op : Operation) (k : Parts) (words : ℕ) → way_of op ≡ w.straight → worded words (past (Some op) k) ≡ worded words k
+straight_worded (o.Split by) k words e = absurd (cc)
+straight_worded o.Begin k words e = absurd (cc)
+straight_worded o.End k words e = absurd (cc)
+straight_worded (o.Frame zero more) k words e = refl
+straight_worded (o.Frame (suc number) more) k words e = refl
+straight_worded op k words e = refl
+
+-- at the end of a part its frame is left
+pub after_onto : (op : Operation) (k : Parts) → way_of op ≡ w.onto → past (Some op) k ≡ worded 0 k
+after_onto o.End k e = refl
+after_onto op k e = absurd (let z = e in cc)
 
 pub after_quit : (op : Operation) (k : Parts) → is_quit op ≡ true → past (Some op) k ≡ k
 after_quit (o.Branch onward) k e = refl
@@ -168,8 +213,8 @@ pub record Ways (who : Who) (op : Operation) (p : Place) (k : Parts) : Type 0 wh
   pub behind : Enters (splits op) (past (Some op) k) k
   pub deep : (b : Bool) → (b ≡ true → 1 ≤ k.levels) → under op b ≡ true → 1 ≤ (past (Some op) k).levels
 
-same_parts : (k : Parts) (a b : ℕ) → a ≡ k.levels → b ≡ k.around → parts a b ≡ k
-same_parts k a b e f = ap (λ x. parts x b) e ∙ ap (λ x. parts k.levels x) f
+same_parts : (k : Parts) (a b : ℕ) → a ≡ k.levels → b ≡ k.around → parts a b k.forks ≡ k
+same_parts k a b e f = ap (λ x. parts x b k.forks) e ∙ ap (λ x. parts k.levels x k.forks) f
 
 module _ (p : Place) (k : Parts) where
   -- one part more
@@ -177,26 +222,30 @@ module _ (p : Place) (k : Parts) where
   deeper numbered true e within = let some = within refl in omega (arith, e, some)
   deeper numbered false e within = omega (arith, e)
 
-  parted : (numbered : Bool) → Stand OfGroup p k → Stand OfGroup (record p { nests = OfPart numbered None ∷ p.nests }) (parts (suc k.levels) (suc k.around))
-  parted numbered h = record {
-    is = same_parts (parts (suc k.levels) (suc k.around)) (levels_of (is_main_place p.function) (OfPart numbered None ∷ p.nests)) (suc (nesting p.nests))
-        (deeper numbered (is_main_place p.function) (ap (λ (x : Parts). x.levels) h.is) (h.within refl)) (ap (λ (x : Parts). suc x.around) h.is);
+  parted : (by : SplitKind) (numbered : Bool) → left_by_fork numbered p.nests ≡ left_by by (words_in_part p.nests) → Stand OfGroup p k
+      → Stand OfGroup (record p { nests = OfPart numbered None ∷ p.nests }) (past (Some (o.Split by)) k)
+  parted by numbered left h = record {
+    is = ap (λ n. parts n (suc (nesting p.nests)) (record { parts = open_by n (around_by numbered p.nests) (open_in (is_main_place p.function) p.nests); words = 0 }))
+        (deeper numbered (is_main_place p.function) (ap (λ (x : Parts). x.levels) h.is) (h.within refl))
+        ∙ ap (λ (f : Option ℕ). parts (suc k.levels) (suc (nesting p.nests))
+        (record { parts = record { fork = f; words = words_in_part p.nests } ∷ open_in (is_main_place p.function) p.nests; words = 0 })) left
+        ∙ ap (λ (x : Parts). parts (suc k.levels) (suc x.around) (record { parts = record { fork = left_by by x.forks.words; words = x.forks.words } ∷ x.forks.parts; words = 0 })) h.is;
     within = λ e f. omega arith;
   }
 
-  back : at (Some o.Resume) (parts (suc k.levels) (suc k.around)) ≡ k
-  back = same_parts k (suc k.levels - 1) (suc k.around - 1) (omega arith) (omega arith)
+  back : (by : SplitKind) → at (Some o.Resume) (past (Some (o.Split by)) k) ≡ k
+  back by = same_parts k (suc k.levels - 1) (suc k.around - 1) (omega arith) (omega arith)
 
   some : 1 ≤ suc k.levels
   some = omega arith
 
   split_ways : (by : SplitKind) → Stand OfGroup p k → Ways OfGroup (o.Split by) p k
-  split_ways sk.IfAlone h = record { says = h.within refl; first = parted false h; second = inr refl; behind = back; deep = λ b d e. some }
-  split_ways sk.IfElse h = record { says = h.within refl; first = parted false h; second = inl (parted false h); behind = back; deep = λ b d e. some }
-  split_ways sk.AndThen h = record { says = h.within refl; first = parted false h; second = inr refl; behind = back; deep = λ b d e. some }
-  split_ways sk.OrElse h = record { says = h.within refl; first = parted false h; second = inr refl; behind = back; deep = λ b d e. some }
-  split_ways sk.Loop h = record { says = h.within refl; first = parted false h; second = inr refl; behind = back; deep = λ b d e. some }
-  split_ways sk.Fork h = record { says = h.within refl; first = parted true h; second = inr refl; behind = back; deep = λ b d e. some }
+  split_ways sk.IfAlone h = record { says = h.within refl; first = parted sk.IfAlone false refl h; second = inr refl; behind = back sk.IfAlone; deep = λ b d e. some }
+  split_ways sk.IfElse h = record { says = h.within refl; first = parted sk.IfElse false refl h; second = inl (parted sk.IfElse false refl h); behind = back sk.IfElse; deep = λ b d e. some }
+  split_ways sk.AndThen h = record { says = h.within refl; first = parted sk.AndThen false refl h; second = inr refl; behind = back sk.AndThen; deep = λ b d e. some }
+  split_ways sk.OrElse h = record { says = h.within refl; first = parted sk.OrElse false refl h; second = inr refl; behind = back sk.OrElse; deep = λ b d e. some }
+  split_ways sk.Loop h = record { says = h.within refl; first = parted sk.Loop false refl h; second = inr refl; behind = back sk.Loop; deep = λ b d e. some }
+  split_ways sk.Fork h = record { says = h.within refl; first = parted sk.Fork true refl h; second = inr refl; behind = back sk.Fork; deep = λ b d e. some }
 
   begin_ways : (who : Who) → p ≡ entered Main → Stand who p k → Ways who o.Begin p k
   begin_ways who e h =
@@ -204,11 +253,11 @@ module _ (p : Place) (k : Parts) where
       record {
         says = tt;
         first = record {
-          is = ap (λ (q : Place). parts (levels_of (is_main_place q.function) (OfPart true None ∷ q.nests)) (suc (nesting q.nests))) e ∙ sym (ap (λ (x : Parts). parts x.levels (suc x.around)) empty);
+          is = ap (λ (q : Place). parts_at (record q { nests = OfPart true None ∷ q.nests })) e ∙ sym (ap (λ (x : Parts). past (Some o.Begin) x) empty);
           within = λ f g. omega arith;
         };
         second = inr refl;
-        behind = ap (λ (x : Parts). at (Some o.Resume) (parts x.levels (suc x.around))) empty ∙ sym empty;
+        behind = ap (λ (x : Parts). at (Some o.Resume) (past (Some o.Begin) x)) empty ∙ sym empty;
         deep = λ b d f. untrue f;
       }
 

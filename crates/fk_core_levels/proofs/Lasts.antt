@@ -11,46 +11,46 @@ use Rattle.fk_core_levels.specs.Forks.{OpenPart, Parts, no_part, closed, come_to
 use Rattle.fk_core_levels.specs.Levels.{AreLevels}
 
 -- as many parts are open as are counted
-closed_many : (open : List OpenPart) → length (closed open).open ≡ length open - 1
+closed_many : (held : List OpenPart) → length (closed held).parts ≡ length held - 1
 closed_many [] = omega arith
-closed_many (part ∷ open) = omega arith
+closed_many (part ∷ held) = omega arith
 
-come_many : (o : Option Operation) (open : Parts) → length (come_to o open).open ≡ here (length open.open) o
-come_many (Some Resume) open = closed_many open.open
-come_many o open = refl
+come_many : (o : Option Operation) (held : Parts) → length (come_to o held).parts ≡ here (length held.parts) o
+come_many (Some Resume) held = closed_many held.parts
+come_many o held = refl
 
-taken_many : (number words : ℕ) (open : Parts) → (taken number words open).open ≡ open.open
-taken_many zero words open = refl
-taken_many (suc number) words open = refl
+taken_many : (number words : ℕ) (held : Parts) → (taken number words held).parts ≡ held.parts
+taken_many zero words held = refl
+taken_many (suc number) words held = refl
 
-leave_many : (o : Option Operation) (open : Parts) → length (leave o open).open ≡ after (length open.open) o
-leave_many (Some (Split by)) open = refl
-leave_many (Some (Frame number words)) open = ap length (taken_many number words open)
-leave_many (Some Begin) open = refl
-leave_many (Some End) open = refl
-leave_many o open = refl
+leave_many : (o : Option Operation) (held : Parts) → length (leave o held).parts ≡ after (length held.parts) o
+leave_many (Some (Split by)) held = refl
+leave_many (Some (Frame number words)) held = ap length (taken_many number words held)
+leave_many (Some Begin) held = refl
+leave_many (Some End) held = refl
+leave_many o held = refl
 
-none_open : (opening : Bool) (open : List OpenPart) → length (if opening then [] else open) ≡ (if opening then 0 else length open)
-none_open true open = refl
-none_open false open = refl
+none_open : (opening : Bool) (held : List OpenPart) → length (if opening then [] else held) ≡ (if opening then 0 else length held)
+none_open true held = refl
+none_open false held = refl
 
-open_many : (open : Parts) (opening : Bool) (ops : List CoreOp) → map (λ (o : List OpenPart). length o) (open_from open opening ops) ≡ counts_from (length open.open) opening ops
-open_many open opening [] = refl
-open_many open opening (op ∷ ops) =
-    let there = come_to (read op) open in
-    let many : length there.open ≡ here (length open.open) (read op) = come_many (read op) open in
-    let left : length (leave (read op) there).open ≡ after (here (length open.open) (read op)) (read op) = leave_many (read op) there ∙ ap (λ n. after n (read op)) many in
+open_many : (held : Parts) (opening : Bool) (ops : List CoreOp) → map (λ (o : List OpenPart). length o) (open_from held opening ops) ≡ counts_from (length held.parts) opening ops
+open_many held opening [] = refl
+open_many held opening (op ∷ ops) =
+    let there = come_to (read op) held in
+    let many : length there.parts ≡ here (length held.parts) (read op) = come_many (read op) held in
+    let left : length (leave (read op) there).parts ≡ after (here (length held.parts) (read op)) (read op) = leave_many (read op) there ∙ ap (λ n. after n (read op)) many in
     let rest = map (λ (o : List OpenPart). length o) (open_from (leave (read op) there) (opens opening op) ops) in
-    ap (λ n. n ∷ rest) (none_open opening there.open ∙ ap (λ n. if opening then 0 else n) many)
-    ∙ ap (λ ns. (if opening then 0 else here (length open.open) (read op)) ∷ ns)
+    ap (λ n. n ∷ rest) (none_open opening there.parts ∙ ap (λ n. if opening then 0 else n) many)
+    ∙ ap (λ ns. (if opening then 0 else here (length held.parts) (read op)) ∷ ns)
     (open_many (leave (read op) there) (opens opening op) ops ∙ ap (λ n. counts_from n (opens opening op) ops) left)
 
 -- the innermost part has the highest number
-last_fork : (open : List OpenPart) → fork_of open ≡ fork_at open (length open - 1)
+last_fork : (held : List OpenPart) → fork_of held ≡ fork_at held (length held - 1)
 last_fork [] = refl
-last_fork (part ∷ open) =
-    let same : length open ≡ length (part ∷ open) - 1 = omega arith in
-    sym (ap (λ b. if b then part.fork else fork_at open (length (part ∷ open) - 1)) (eq-eqb (length open) (length (part ∷ open) - 1) same))
+last_fork (part ∷ held) =
+    let same : length held ≡ length (part ∷ held) - 1 = omega arith in
+    sym (ap (λ b. if b then part.fork else fork_at held (length (part ∷ held) - 1)) (eq-eqb (length held) (length (part ∷ held) - 1) same))
 
 -- at each index
 told_at : (saved : List Levels) (stacks : List (List OpenPart)) → map (λ (l : Levels). l.count) saved ≡ map (λ (o : List OpenPart). length o) stacks

@@ -36,47 +36,47 @@ few_behind core saved s i = s.least (λ i. 64) (most core) i
 
 -- ---- at the beginning
 
-told_long : (parts around : ℕ) (open : Parts) (opening : Bool) (ops : List CoreOp) → length (told_from parts around open opening ops) ≡ length ops
-told_long parts around open opening [] = refl
-told_long parts around open opening (op ∷ ops) = ap suc (told_long (after (here parts (read op)) (read op)) (inside (here around (read op)) (read op)) (leave (read op) (come_to (read op) open)) (opens opening op) ops)
+told_long : (parts around : ℕ) (held : Parts) (opening : Bool) (ops : List CoreOp) → length (told_from parts around held opening ops) ≡ length ops
+told_long parts around held opening [] = refl
+told_long parts around held opening (op ∷ ops) = ap suc (told_long (after (here parts (read op)) (read op)) (inside (here around (read op)) (read op)) (leave (read op) (come_to (read op) held)) (opens opening op) ops)
 
-told_count : (parts around : ℕ) (open : Parts) (opening : Bool) (ops : List CoreOp) → map (λ (l : Levels). l.count) (told_from parts around open opening ops) ≡ counts_from parts opening ops
-told_count parts around open opening [] = refl
-told_count parts around open opening (op ∷ ops) =
-    ap (λ ns. (if opening then 0 else here parts (read op)) ∷ ns) (told_count (after (here parts (read op)) (read op)) (inside (here around (read op)) (read op)) (leave (read op) (come_to (read op) open)) (opens opening op) ops)
+told_count : (parts around : ℕ) (held : Parts) (opening : Bool) (ops : List CoreOp) → map (λ (l : Levels). l.count) (told_from parts around held opening ops) ≡ counts_from parts opening ops
+told_count parts around held opening [] = refl
+told_count parts around held opening (op ∷ ops) =
+    ap (λ ns. (if opening then 0 else here parts (read op)) ∷ ns) (told_count (after (here parts (read op)) (read op)) (inside (here around (read op)) (read op)) (leave (read op) (come_to (read op) held)) (opens opening op) ops)
 
-told_nest : (parts around : ℕ) (open : Parts) (opening : Bool) (ops : List CoreOp) → map (λ (l : Levels). l.nest) (told_from parts around open opening ops) ≡ nests_from around opening ops
-told_nest parts around open opening [] = refl
-told_nest parts around open opening (op ∷ ops) =
+told_nest : (parts around : ℕ) (held : Parts) (opening : Bool) (ops : List CoreOp) → map (λ (l : Levels). l.nest) (told_from parts around held opening ops) ≡ nests_from around opening ops
+told_nest parts around held opening [] = refl
+told_nest parts around held opening (op ∷ ops) =
     ap (λ ns. (if opening then 0 else here around (read op)) ∷ ns)
-    (told_nest (after (here parts (read op)) (read op)) (inside (here around (read op)) (read op)) (leave (read op) (come_to (read op) open)) (opens opening op) ops)
+    (told_nest (after (here parts (read op)) (read op)) (inside (here around (read op)) (read op)) (leave (read op) (come_to (read op) held)) (opens opening op) ops)
 
-fork_told : (opening : Bool) (open : List OpenPart) → (if opening then None else fork_of open) ≡ fork_of (if opening then [] else open)
-fork_told true open = refl
-fork_told false open = refl
+fork_told : (opening : Bool) (held : List OpenPart) → (if opening then None else fork_of held) ≡ fork_of (if opening then [] else held)
+fork_told true held = refl
+fork_told false held = refl
 
-told_fork : (parts around : ℕ) (open : Parts) (opening : Bool) (ops : List CoreOp) → map (λ (l : Levels). l.fork) (told_from parts around open opening ops) ≡ map fork_of (open_from open opening ops)
-told_fork parts around open opening [] = refl
-told_fork parts around open opening (op ∷ ops) =
-    let there = come_to (read op) open in
+told_fork : (parts around : ℕ) (held : Parts) (opening : Bool) (ops : List CoreOp) → map (λ (l : Levels). l.fork) (told_from parts around held opening ops) ≡ map fork_of (open_from held opening ops)
+told_fork parts around held opening [] = refl
+told_fork parts around held opening (op ∷ ops) =
+    let there = come_to (read op) held in
     let rest = told_fork (after (here parts (read op)) (read op)) (inside (here around (read op)) (read op)) (leave (read op) there) (opens opening op) ops in
-    ap (λ f. f ∷ map (λ (l : Levels). l.fork) (told_from (after (here parts (read op)) (read op)) (inside (here around (read op)) (read op)) (leave (read op) there) (opens opening op) ops)) (fork_told opening there.open)
-    ∙ ap (λ fs. fork_of (if opening then [] else there.open) ∷ fs) rest
+    ap (λ f. f ∷ map (λ (l : Levels). l.fork) (told_from (after (here parts (read op)) (read op)) (inside (here around (read op)) (read op)) (leave (read op) there) (opens opening op) ops)) (fork_told opening there.parts)
+    ∙ ap (λ fs. fork_of (if opening then [] else there.parts) ∷ fs) rest
 
-told_holds : (parts around : ℕ) (open : Parts) (opening : Bool) (ops : List CoreOp) (i : ℕ) (op : CoreOp) → slice_get ops i ≡ Some op → named (read op) ≤ behind_in (told_from parts around open opening ops) i
-told_holds parts around open opening [] i op at = absurd (cc)
-told_holds parts around open opening (o ∷ ops) zero op at =
+told_holds : (parts around : ℕ) (held : Parts) (opening : Bool) (ops : List CoreOp) (i : ℕ) (op : CoreOp) → slice_get ops i ≡ Some op → named (read op) ≤ behind_in (told_from parts around held opening ops) i
+told_holds parts around held opening [] i op at = absurd (cc)
+told_holds parts around held opening (o ∷ ops) zero op at =
     let same : o ≡ op = cc in
     let e : named (read o) ≡ named (read op) = ap (λ x. named (read x)) same in
     omega (arith, e)
-told_holds parts around open opening (o ∷ ops) (suc i) op at = told_holds (after (here parts (read o)) (read o)) (inside (here around (read o)) (read o)) (leave (read o) (come_to (read o) open)) (opens opening o) ops i op at
+told_holds parts around held opening (o ∷ ops) (suc i) op at = told_holds (after (here parts (read o)) (read o)) (inside (here around (read o)) (read o)) (leave (read o) (come_to (read o) held)) (opens opening o) ops i op at
 
-told_least : (parts around : ℕ) (open : Parts) (opening : Bool) (ops : List CoreOp) (other : ℕ → ℕ) → ((i : ℕ) (op : CoreOp) → slice_get ops i ≡ Some op → named (read op) ≤ other i)
-    → (i : ℕ) → behind_in (told_from parts around open opening ops) i ≤ other i
-told_least parts around open opening [] other holds i = omega arith
-told_least parts around open opening (o ∷ ops) other holds zero = holds 0 o refl
-told_least parts around open opening (o ∷ ops) other holds (suc i) =
-    told_least (after (here parts (read o)) (read o)) (inside (here around (read o)) (read o)) (leave (read o) (come_to (read o) open)) (opens opening o) ops (λ i. other (suc i)) (λ i op at. holds (suc i) op at) i
+told_least : (parts around : ℕ) (held : Parts) (opening : Bool) (ops : List CoreOp) (other : ℕ → ℕ) → ((i : ℕ) (op : CoreOp) → slice_get ops i ≡ Some op → named (read op) ≤ other i)
+    → (i : ℕ) → behind_in (told_from parts around held opening ops) i ≤ other i
+told_least parts around held opening [] other holds i = omega arith
+told_least parts around held opening (o ∷ ops) other holds zero = holds 0 o refl
+told_least parts around held opening (o ∷ ops) other holds (suc i) =
+    told_least (after (here parts (read o)) (read o)) (inside (here around (read o)) (read o)) (leave (read o) (come_to (read o) held)) (opens opening o) ops (λ i. other (suc i)) (λ i op at. holds (suc i) op at) i
 
 pub told_settles : (core : List CoreOp) → IsSettling core (told_from 0 0 no_part false core)
 told_settles core = record {

@@ -25,8 +25,8 @@ few_inside parts o = omega arith
 abbrev levels_of : (count behind nest : ℕ) (fork : Option ℕ) → Levels
 levels_of count behind nest fork = record { count = count; behind = behind; nest = nest; fork = fork }
 
-module _ (ops : List CoreOp) (i : ℕ) (op : CoreOp) (parts around : ℕ) (open : Parts) (opening : Bool) (done whole : List Levels) (split : drop i ops ≡ op ∷ drop (i + 1) ops)
-    (e : done ++ told_from parts around open opening (drop i ops) ≡ whole) where
+module _ (ops : List CoreOp) (i : ℕ) (op : CoreOp) (parts around : ℕ) (held : Parts) (opening : Bool) (done whole : List Levels) (split : drop i ops ≡ op ∷ drop (i + 1) ops)
+    (e : done ++ told_from parts around held opening (drop i ops) ≡ whole) where
   abbrev count : ℕ
   count = here parts (read op)
 
@@ -34,21 +34,21 @@ module _ (ops : List CoreOp) (i : ℕ) (op : CoreOp) (parts around : ℕ) (open 
   nest = here around (read op)
 
   abbrev there : Parts
-  there = come_to (read op) open
+  there = come_to (read op) held
 
   abbrev rest : (parts around : ℕ) → Parts → Bool → List Levels
   rest p a q b = told_from p a q b (drop (i + 1) ops)
 
   abbrev one : Levels
-  one = levels_of (if opening then 0 else count) (named (read op)) (if opening then 0 else nest) (if opening then None else fork_of there.open)
+  one = levels_of (if opening then 0 else count) (named (read op)) (if opening then 0 else nest) (if opening then None else fork_of there.parts)
 
   told_one : (done ++ one ∷ []) ++ rest (after count (read op)) (inside nest (read op)) (leave (read op) there) (opens opening op) ≡ whole
   told_one =
       append_assoc done (one ∷ []) (rest (after count (read op)) (inside nest (read op)) (leave (read op) there) (opens opening op))
-      ∙ ap (λ xs. done ++ told_from parts around open opening xs) (sym split) ∙ e
+      ∙ ap (λ xs. done ++ told_from parts around held opening xs) (sym split) ∙ e
 
   pub told_next : (new : List Levels) (c b n : ℕ) (f : Option ℕ) (p a : ℕ) (q : Parts) (o : Bool) → new ≡ done ++ levels_of c b n f ∷ [] → c ≡ (if opening then 0 else count) → b ≡ named (read op)
-      → n ≡ (if opening then 0 else nest) → f ≡ (if opening then None else fork_of there.open)
+      → n ≡ (if opening then 0 else nest) → f ≡ (if opening then None else fork_of there.parts)
       → p ≡ after count (read op) → a ≡ inside nest (read op) → q ≡ leave (read op) there → o ≡ opens opening op → new ++ rest p a q o ≡ whole
   told_next new c b n f p a q o is of_count of_words of_nest of_fork of_parts of_around of_open of_opening =
       let first = if opening then 0 else count in

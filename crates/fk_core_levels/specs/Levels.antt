@@ -26,16 +26,16 @@ pub record AreLevels (core : List CoreOp) (saved : List Levels) : Type 0 where
 
 -- What is told of each operation by itself.
 abbrev pub told_from : (parts around : ℕ) → Parts → (opening : Bool) → List CoreOp → List Levels
-told_from parts around open opening [] = []
-told_from parts around open opening (op ∷ ops) =
+told_from parts around held opening [] = []
+told_from parts around held opening (op ∷ ops) =
     let count = here parts (read op) in
     let nest = here around (read op) in
-    let there = come_to (read op) open in
+    let there = come_to (read op) held in
     record {
       count = if opening then 0 else count;
       behind = named (read op);
       nest = if opening then 0 else nest;
-      fork = if opening then None else fork_of there.open;
+      fork = if opening then None else fork_of there.parts;
     }
     ∷ told_from (after count (read op)) (inside nest (read op)) (leave (read op) there)
     (opens opening op) ops

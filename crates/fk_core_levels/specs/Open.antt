@@ -8,4 +8,4 @@ abbrev pub part_of : Open → OpenPart
 part_of part = record { fork = part.fork; words = part.words }
 
 abbrev pub parts_of : OpenParts → Parts
-parts_of parts = record { open = reverse (map part_of parts.parts.items); words = parts.words }
+parts_of parts = record { parts = reverse (map part_of parts.parts.items); words = parts.words }

@@ -51,7 +51,7 @@ impl OpenParts {
 
     /// How a `fork` left the group around the innermost part.
     pub(crate) fn fork(&self) -> Option<u32>
-        ensures { result ≡ f.fork_of (parts_of self.now).open }
+        ensures { result ≡ f.fork_of (parts_of self.now).parts }
     {
         match self.parts.last() {
             Some(part) => part.fork,

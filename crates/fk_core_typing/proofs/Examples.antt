@@ -206,7 +206,7 @@ private_loop_is_typed = (
   (
     record { turn = deeper; left = inside; even = refl },
     grants_itself deeper,
-    (may _ _ tt (omega arith, omega arith) tt, (may _ _ tt (omega arith, omega arith) tt, grants_itself inside, grants_itself deeper)),
+    (may _ _ tt (omega arith, omega arith) tt, (may _ _ (tt, refl) (omega arith, omega arith) tt, grants_itself inside, grants_itself deeper)),
     grants_itself deeper,
     grants_itself deeper,
     grants_itself inside,

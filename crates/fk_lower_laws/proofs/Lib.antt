@@ -47,4 +47,5 @@ pub mod Room
 mod Heights
 pub mod TallLists
 pub mod Lists
+mod Framing
 mod Shrinking

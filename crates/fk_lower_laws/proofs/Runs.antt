@@ -23,6 +23,7 @@ use Rattle.fk_check_laws.proofs.Each.{Each}
 use Rattle.fk_check_laws.proofs.PlacedPrograms.{correct_programs_stand_in_place}
 use Rattle.fk_lower_laws.specs.Asked.{place_by, place_in, place_of}
 use Rattle.fk_lower_laws.specs.TypedLaws.{IsMainAlone}
+use Rattle.fk_lower_laws.proofs.Framing.{function_frames}
 use Rattle.fk_lower_laws.proofs.Shrinking.{function_shrinks}
 use Rattle.fk_lower_laws.proofs.Programs.{IsThere, all_there, main_alone}
 
@@ -53,12 +54,12 @@ module _ (program : ProgramTree) (facts : Facts) (valid : IsCorrect program fact
       alone : may_run false f.mode ≡ true → Runs f first
       alone may =
           let g = h.1 (runs false ∙ may) in
-          record { who = OfBody; placed = numbers calls OfBody false (code_of tables everyone f) first (function_in_place tables calls everyone OfBody false f g.0 refl g.1); by_main = λ other. called; shrinks = function_shrinks tables everyone calls false OfBody f g.1 first }
+          record { who = OfBody; placed = numbers calls OfBody false (code_of tables everyone f) first (function_in_place tables calls everyone OfBody false f g.0 refl g.1); by_main = λ other. called; shrinks = function_shrinks tables everyone calls false OfBody f g.1 first; frames = function_frames tables everyone calls false OfBody f g.1 first }
 
       by : (mode' : Mode) → f.mode ≡ mode' → Runs f first
       by Sync e' =
           let g = h.0 (runs true ∙ ap (may_run true) e') in
-          record { who = OfGroup; placed = numbers calls OfGroup false (code_of tables everyone f) first (function_in_place tables calls everyone OfGroup false f g.0 refl g.1); by_main = λ other. called; shrinks = function_shrinks tables everyone calls false OfGroup f g.1 first }
+          record { who = OfGroup; placed = numbers calls OfGroup false (code_of tables everyone f) first (function_in_place tables calls everyone OfGroup false f g.0 refl g.1); by_main = λ other. called; shrinks = function_shrinks tables everyone calls false OfGroup f g.1 first; frames = function_frames tables everyone calls false OfGroup f g.1 first }
       by Async e' = alone (ap (may_run false) e')
       by Straight e' = alone (ap (may_run false) e')
 
@@ -73,6 +74,7 @@ module _ (program : ProgramTree) (facts : Facts) (valid : IsCorrect program fact
             placed = numbers calls (OfMain true) false (code_of tables everyone f) first (function_in_place tables calls everyone (OfMain true) true f g.0 refl g.1);
             by_main = λ other. absurd (true≢false other);
             shrinks = function_shrinks tables everyone calls true (OfMain true) f g.1 first;
+            frames = function_frames tables everyone calls true (OfMain true) f g.1 first;
           }
       by false e =
           of_mode f gs h e
@@ -80,7 +82,7 @@ module _ (program : ProgramTree) (facts : Facts) (valid : IsCorrect program fact
 
   all : (gs : List FunctionTree) (first binding : ℕ) → Each (IsThere program facts valid) gs → IsMainAlone tables main gs → FunctionsInPlace tables calls main gs
       → IsRun calls (place_in tables gs binding) (body_in tables everyone first gs binding)
-  all [] first binding there alone h = record { who = OfBody; placed = refl; by_main = λ other. refl; shrinks = tt }
+  all [] first binding there alone h = record { who = OfBody; placed = refl; by_main = λ other. refl; shrinks = tt; frames = tt }
   all (f ∷ gs) first binding there alone h =
       by (binding_of tables f == binding) (all gs (first + size (code_of tables everyone f)) binding there.1 alone.1 h.3)
     where

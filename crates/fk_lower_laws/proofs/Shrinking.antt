@@ -1,4 +1,4 @@
--- Loops shrink only in the parts of splits: a loop whose test ends with a shrink is the part of one.
+-- Loops shrink only in the parts of splits: a loop whose test ends with a shrink is the only part of one.
 use Rattle.std.proofs.Common.{◌≡◌, ℕ, suc, ◌+◌, Bool, true, false, true≢false, List, [], ◌∷◌, Option, Some, None, refl, sym, ◌∙◌}
 use Rattle.std.specs.Prelude.{if◌then◌else◌, is_some}
 use Rattle.fk_syntax.specs.declared.place.Place.{Place}
@@ -85,8 +85,8 @@ nothing None = λ b. tt
 nothing (Some b) = tt
 
 divided : (split : Option Bool) (t : Place) (by : SplitKind) (x y rest : Coded) → FineBy None x → FineBy None y → FineBy split rest → FineBy split (choose t (o.Split by) x y (plain o.Resume rest))
-divided None t by x y rest p' q r = λ b. (p' true, q true, r b)
-divided (Some b) t by x y rest p' q r = (p' true, q true, r)
+divided None t by x y rest p' q r = λ b. (p' (under (o.Split by) b), q (under (o.Split by) b), r b)
+divided (Some b) t by x y rest p' q r = (p' (under (o.Split by) b), q (under (o.Split by) b), r)
 
 branched : (split : Option Bool) (onward : Bool) (x y rest : Coded) → FineBy None x → FineBy None y → FineBy split rest → FineBy split (choose nowhere (o.Branch onward) x y rest)
 branched None onward x y rest p' q r = λ b. (p' b, q b, r b)
@@ -213,8 +213,8 @@ module _ (tables : Tables) (functions : (binding : ℕ) → Signature) (may_call
         gives (is_group who) b condition h.1 (if here.splits then part else agreed here.sync branch)
         (either here.splits b part (agreed here.sync branch)
         (λ is. (
-          frames true (frame_at tables spot.at 0) spot.place (x (plain o.End done)) (statement true main (inner who) inside first h.2 (plain o.End done) tt),
-          frames true (frame_at tables spot.at 1) spot.place (y (plain o.End done)) (statement true main (inner who) inside second h.3 (plain o.End done) tt),
+          frames false (frame_at tables spot.at 0) spot.place (x (plain o.End done)) (statement false main (inner who) inside first h.2 (plain o.End done) tt),
+          frames false (frame_at tables spot.at 1) spot.place (y (plain o.End done)) (statement false main (inner who) inside second h.3 (plain o.End done) tt),
           q,
         ))
         (λ is. agreed_fine here.sync b branch (statement b main (inner who) inside first h.2 done tt, statement b main (inner who) inside second h.3 done tt, q)))

@@ -37,14 +37,16 @@ use Rattle.fk_core_typing.proofs.Listed.{state, at_end, entries, of_jump, of_ope
 use Rattle.fk_core_typing.proofs.Listed as listed
 use Rattle.fk_lower_laws.specs.Rooms.{HasWord, ahead_in, HaveRoom}
 use Rattle.fk_core_levels.specs.Count.{counts, read}
+use Rattle.fk_core_levels.specs.Forks.{level_forks}
 use Rattle.fk_core_levels.specs.Behind.{up_to, named, goes_on, goes_on_by, leads_by, leads}
 use Rattle.fk_core_counting.specs.Laws.{IsRun}
-use Rattle.fk_core_counting.proofs.Lists.{levels_told}
+use Rattle.fk_core_counting.proofs.Lists.{levels_told, forks_told}
+use Rattle.fk_core_counting.proofs.Forks.{told_forks}
 use Rattle.fk_core_counting.proofs.Walk.{KeepsPlaces}
 use Rattle.fk_core_counting.proofs.Ways.{stand_begun}
 use Rattle.fk_core_counting.proofs.Folding.{none, none_read}
 use Rattle.fk_lower_laws.specs.Suiting.{LiveWordsSuit}
-use Rattle.fk_lower_laws.specs.Levels.{levels_in, Rooms, HasRoomFor, GoesTo, Enters, GoesOn, FitsRoom, HasRooms}
+use Rattle.fk_lower_laws.specs.Levels.{levels_in, forks_in, Rooms, HasRoomFor, GoesTo, Enters, GoesOn, FitsRoom, HasRooms}
 use Rattle.fk_lower_laws.proofs.Nested.{has_frame, frame_named, takes_frame, none_taken, own_taken, own_before}
 use Rattle.fk_lower_laws.proofs.Sized.{Sized, sized, granted, sizing, sizing_lawful, all_sized}
 use Rattle.fk_lower_laws.proofs.Living.{behind_either, kept_before, read_before, jump_before}
@@ -447,6 +449,11 @@ module _ (bodies : ℕ → Code ℕ) (core : List CoreOp) (entry : ℕ → ℕ) 
     counted : (i : ℕ) → i < length core → slice_get (counts core) i ≡ Some (levels_in (at i).state.place)
     counted i low = levels_told bodies core entry place_of frame_of typed may_call nested run sys lawful judged bare_main (λ (s : Sized). s.state.place) sized_keep i low
 
+    forked : (i level : ℕ) → i < length core → level < levels_in (at i).state.place → level_forks core i level ≡ forks_in (at i).state.place level
+    forked i level low less =
+        forks_told bodies core entry place_of frame_of typed may_call nested run sys lawful judged bare_main (λ (s : Sized). s.state.place) sized_keep i level low
+        ∙ told_forks (is_main_place (at i).state.place.function) (at i).state.place.nests level less
+
     -- the frame of `main` has room for its words, also if nothing is done there
     opens_main : (main : ℕ) → place_of main ≡ Main → (is_done (bodies main) ≡ true) ⊎ (is_closed (bodies main) ≡ true) → firsts + 8 + (at (entry main)).words + (at (entry main)).most ≤ 64
     opens_main main is (inl d) =
@@ -473,6 +480,7 @@ module _ (bodies : ℕ → Code ℕ) (core : List CoreOp) (entry : ℕ → ℕ) 
           rooms = rooms;
           main_of = λ i. refl;
           counted = counted;
+          forked = forked;
           bound = record { holds = holds; stays = λ i onward low there'. stays i onward };
           begins = begins';
           opens = omega (arith, fits', a);

@@ -6,16 +6,21 @@ use Rattle.fk_meaning_operation.specs.declared.operation.Operation.TheVariants a
 use Rattle.fk_core.specs.declared.op.CoreOp.{CoreOp}
 use Rattle.fk_core.specs.Next.{is_jump, behind_jump, follows}
 use Rattle.fk_core_levels.specs.Count.{counts}
+use Rattle.fk_core_levels.specs.Forks.{level_forks}
 use Rattle.fk_core_levels.specs.Behind.{IsBound}
 use Rattle.fk_sim_block.specs.Next.{OpAt}
 use Rattle.fk_sim_block.specs.Stands.{Frames, ahead}
 use Rattle.fk_core_liveness.specs.declared.places.FunctionKind.TheVariants.{Main, Called}
 use Rattle.fk_core_liveness.specs.Frames.{is_main_place}
-use Rattle.fk_lockstep_frames.specs.Nests.{nesting, levels_of}
+use Rattle.fk_lockstep_frames.specs.Nests.{nesting, levels_of, forks_of}
 use Rattle.fk_core_typing.specs.Values.{Place, with_frame, entered, place_behind, MayBeIn}
 
 abbrev pub levels_in : Place → ℕ
 levels_in place = levels_of (is_main_place place.function) place.nests
+
+-- Whether a `fork` left a level, and how many words the frame has of the group that it divided.
+abbrev pub forks_in : Place → (level : ℕ) → Option ℕ
+forks_in place level = forks_of (is_main_place place.function) place.nests level
 
 -- A group of `main` splits in the part of a `start`.
 abbrev pub IsInGroup : Operation → Place → Type 0
@@ -69,12 +74,15 @@ module _ (core : List CoreOp) (frames : Frames) (rooms : Rooms) where
         → HasRoomFor (levels_in (place_behind operation onward (rooms.places i))) i
     pub goes_on : GoesOn operation i op.target
 
--- The frames of a list have room for the levels that the list counts.
+-- The frames of a list have room for the levels that the list counts. The list tells how each was
+-- left.
 pub record HasRooms (core : List CoreOp) (frames : Frames) (main : ℕ) : Type 0 where
   pub rooms : Rooms
   pub main_of : (i : ℕ) → frames.is_main i ≡ is_main_place (rooms.places i).function
   pub counted : (i : ℕ) → i < length core
       → slice_get (counts core) i ≡ Some (levels_in (rooms.places i))
+  pub forked : (i level : ℕ) → i < length core → level < levels_in (rooms.places i)
+      → level_forks core i level ≡ forks_in (rooms.places i) level
   pub bound : IsBound core rooms.words
   pub begins : rooms.places main ≡ entered Main
   pub opens : HasRoomFor core frames rooms 0 main

@@ -23,8 +23,8 @@ loop-op-preserved c =
     let parts : c.after-parts.result ≡ after (here c.loop-op.parts (read op)) (read op) = c.after-parts.ensures ∙ ap (λ k. after k (read op)) count in
     let around : c.inside-around.result ≡ inside (here c.loop-op.around (read op)) (read op) = c.inside-around.ensures ∙ ap (λ k. inside k (read op)) nest in
     let there : parts_of c.come_to.new.self ≡ come_to (read op) (parts_of c.loop-op.open) = c.come_to.ensures in
-    let fork : c.fork_in_call.result ≡ (if c.loop-op.opening then None else fork_of (come_to (read op) (parts_of c.loop-op.open)).open) =
-    c.fork_in_call.ensures ∙ ap (λ k. if c.loop-op.opening then None else k) (c.fork.ensures ∙ ap (λ (q : Parts). fork_of q.open) there) in
+    let fork : c.fork_in_call.result ≡ (if c.loop-op.opening then None else fork_of (come_to (read op) (parts_of c.loop-op.open)).parts) =
+    c.fork_in_call.ensures ∙ ap (λ k. if c.loop-op.opening then None else k) (c.fork.ensures ∙ ap (λ (q : Parts). fork_of q.parts) there) in
     let left : parts_of c.leave.new.self ≡ leave (read op) (come_to (read op) (parts_of c.loop-op.open)) = c.in_ok-leave.ensures ∙ ap (leave (read op)) there in
     let few = few_after c.loop-op.parts (read op) in
     let few_around = few_inside c.loop-op.around (read op) in
