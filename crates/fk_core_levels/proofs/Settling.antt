@@ -10,7 +10,7 @@ use Rattle.fk_core.specs.declared.op.CoreOp.{CoreOp}
 use Rattle.fk_gen.specs.declared.placed.Levels.{Levels}
 use Rattle.fk_core_levels.specs.Count.{read, here, after, inside, opens, counts_from, nests_from}
 use Rattle.fk_core_levels.specs.Forks.{OpenPart, Parts, no_part, come_to, fork_of, leave, open_from}
-use Rattle.fk_core_levels.specs.Behind.{up_to, named, leads, IsBound, IsLeast}
+use Rattle.fk_core_levels.specs.Behind.{up_to, named, leads, IsBound}
 use Rattle.fk_core_levels.specs.Levels.{behind_in, AreLevels, told_from, raised, joined, IsSettling, StaysThere}
 use Rattle.fk_core_levels.proofs.Raised.{raised_long, raised_count, raised_nest, raised_fork, raised_above, raised_below}
 
