@@ -15,7 +15,7 @@
        .......l     one is left
        gggggggg     all go on in one round
 
-   Cost: 15,302 cycles. */
+   Cost: 16,881 cycles. */
 #include <fork.h>
 #include <io.h>
 

@@ -16,8 +16,8 @@ void main(void) {
   start (__inputs) {
     sh int turn;
     words[$] = __input[$];
-    for (turn = 0; turn < groupsize(); turn++)
-      if ($ % 2 == turn % 2 && $ + 1 < groupsize())
+    for (turn = 0; turn < __inputs; turn++)
+      if ($ % 2 == turn % 2 && $ + 1 < __inputs)
         if (words[$] > words[$ + 1]) {
           int larger = words[$];
           words[$] = words[$ + 1];

@@ -162,7 +162,8 @@ class Row:
 
     words: list
     status: int
-    out: bytes = b""
+    # standard output, or a pattern of it
+    out: bytes | re.Pattern = b""
     report: str = ""
     # files that must be there afterwards with these bytes (or of which a function holds), or not at all
     files: dict = field(default_factory=dict)
@@ -184,8 +185,47 @@ def execute(name, harts=1, cycles=1000000):
     return ["exec", name, "--harts", str(harts), "--cycles", str(cycles)]
 
 
+def audit(name, harts=1, cycles=1000000):
+    return ["audit", name, "--harts", str(harts), "--cycles", str(cycles)]
+
+
+def trace(name, harts=1, cycles=1000000):
+    return ["trace", name, "--harts", str(harts), "--cycles", str(cycles)]
+
+
 def build(name, to):
     return ["build", name, "-o", to]
+
+
+def elf(name, to):
+    return ["elf", name, "-o", to]
+
+
+def unelf(name, to):
+    return ["unelf", name, "-o", to]
+
+
+def elf_header(*sizes):
+    """The headers of an ELF file whose code, globals and entries have these sizes in bytes. They have 148 bytes."""
+    header = b"\x7fELF\1\1\1" + bytes(9) + struct.pack("<2H5I6H", 2, 243, 1, 0, 52, 0, 0, 52, 32, 3, 0, 0, 0)
+    parts = [(1, 0, sizes[0], 5), (1, 0x10000000, 4194304, 6), (0x60000095, 0, 0, 4)]
+    offset = 148
+    for (kind, address, memory, flags), size in zip(parts, sizes):
+        header += struct.pack("<8I", kind, offset % 2**32, address, address, size, memory, flags, 4)
+        offset += size
+    return header
+
+
+def elf_file(code, of_globals=(), sites=(), commits=()):
+    """The ELF file of an image."""
+    entries = [len(sites), len(commits)] + [word for row in (*sites, *commits) for word in row]
+    words = [*code, *of_globals, *entries]
+    return elf_header(4 * len(code), 4 * len(of_globals), 4 * len(entries)) + struct.pack("<%dI" % len(words), *words)
+
+
+def replaced(there, at, byte):
+    """Bytes of which one is another."""
+    return there[:at] + bytes([byte]) + there[at + 1 :]
 
 
 LISTED = b"00000000: 300002b7  lui t0, 0x30000\n00000004: 0002a623  sw zero, 12(t0)\n"
@@ -199,6 +239,9 @@ NO_COMMAND = [
     ["build", "sums.f95"],
     ["list"],
     ["list", "atomic.image", "more"],
+    ["elf", "halt.image"],
+    ["unelf", "halt.elf", "more", "-o", "none.image"],
+    ["elf", "halt.image", "--harts", "1", "-o", "none.elf"],
     run("sums.f95", harts=0),
     run("sums.f95", harts=1025),
     run("sums.f95", harts="+1"),
@@ -260,7 +303,7 @@ ROWS = [
     # an input that can't be read counts before the text, and is nothing to a command that takes none
     Row(run("refused.f95", harts=2), 3, b"", r"read fault\n", given_from="."),
     Row(execute("halt.image"), 3, b"", r"read fault\n", given_from="."),
-    Row(build("empty.f95", "unread.image"), 0, b"", r"built 253 words\n", files={"unread.image": is_image}, given_from="."),
+    Row(build("empty.f95", "unread.image"), 0, b"", r"built 302 words\n", files={"unread.image": is_image}, given_from="."),
     # a machine of 1,024 harts takes 136 MiB, one of a single hart 8
     Row(run("sums.f95", harts=1024), 5, b"", "", memory=100 << 20),
     Row(run("sums.f95"), 0, b"5\n", FINISHED, memory=100 << 20),
@@ -308,7 +351,7 @@ NO_COMMAND_LINES = [
     "run --help",
     "help run",
     "-- list I",
-    "trace F --harts 1 --cycles 9",
+    "trace F --harts 1 --cycles 9 --show x",
     "Run F --harts 1 --cycles 9",
     "run F --harts 1 --harts 1 --cycles 9",
     "run F --harts 1 --cycles 9 --cycles=9",
@@ -344,6 +387,7 @@ LINES = [
     ("run F --show=-x --harts 1 --cycles 0", 1, b"", r"refused 23 NoGlobal -x\n"),
     ("run F --show - --harts 1 --cycles 0", 1, b"", r"refused 23 NoGlobal -\n"),
     ("run --harts 1 --cycles 0 -- -F", 7, b"", AT_ONCE),
+    ("trace F --harts 2 --cycles 0", 7, b"fork95 trace 1\nharts 2\nend 0\n", AT_ONCE),
     ("run --harts 1 --cycles 0 -- --", 7, b"", AT_ONCE),
     ("run - --harts 1 --cycles 0", 7, b"", AT_ONCE),
     ("exec I --harts 2 --cycles 7", 0, b"", r"finished after 2 cycles\n"),
@@ -426,6 +470,39 @@ ROWS += [
     Row(["list", "long.image"], 0, UNKNOWN_WORDS, r"listed 60000 words\n"),
 ]
 
+# ELF files of images, and bytes that are none
+HALT_ELF = elf_file([DEVICES, HALT], commits=[(4, 1)])
+NO_ELF = {
+    "no bytes": (b"", r"28 ElfShort 0 148"),
+    "a short header": (HALT_ELF[:147], r"28 ElfShort 147 148"),
+    "a byte too few": (HALT_ELF[:-1], r"28 ElfShort 171 172"),
+    "a byte too many": (HALT_ELF + b"\0", r"29 ElfTail 172"),
+    "another machine": (replaced(HALT_ELF, 18, 0xF4), r"27 ElfHeader 18"),
+    "a size that isn't whole words": (replaced(HALT_ELF, 68, 9), r"27 ElfHeader 68"),
+    "a site too many": (replaced(HALT_ELF, 156, 1), r"30 ElfSizes"),
+    "a commit without a count": (replaced(HALT_ELF, 168, 0), r"31 ElfTable 0"),
+    "an image": (FILES["halt.image"] + bytes(148), r"27 ElfHeader 0"),
+}
+assert len(HALT_ELF) == 172 and HALT_ELF[:20].hex() == "7f454c460101010000000000000000000200f300"
+FILES["halt.elf"] = HALT_ELF
+FILES.update({f"{title}.elf": content for title, (content, _) in NO_ELF.items()})
+ROWS += [
+    Row(elf("halt.image", "made.elf"), 0, b"", r"wrote 172 bytes\n", files={"made.elf": HALT_ELF}, given=b"x"),
+    Row(unelf("made.elf", "made.image"), 0, b"", r"wrote 40 bytes\n", files={"made.image": FILES["halt.image"]}),
+    Row(elf("fault.image", "made.elf"), 0, b"", r"wrote 176 bytes\n", files={"made.elf": elf_file([DEVICES, FAULT], sites=[(12, 7, 9)])}),
+    Row(unelf("made.elf", "made.image"), 0, b"", r"wrote 44 bytes\n", files={"made.image": BAD_ADDRESS}),
+    # the globals too
+    Row(build("second.f95", "globals.image"), 0, b"", r"built \d+ words\n"),
+    Row(elf("globals.image", "globals.elf"), 0, b"", r"wrote \d+ bytes\n"),
+    Row(unelf("globals.elf", "back.image"), 0, b"", r"wrote \d+ bytes\n"),
+    Row(execute("back.image"), 0, b"", FINISHED),
+    *[Row(unelf(f"{title}.elf", "none.image"), 12, b"", rf"refused {report}\n", files={"none.image": None}) for title, (_, report) in NO_ELF.items()],
+    Row(elf("halt.elf", "none.elf"), 9, b"", r"refused 13 Magic\n", files={"none.elf": None}),
+    Row(elf("short.image", "none.elf"), 9, b"", r"refused 15 Short 27 28\n", files={"none.elf": None}),
+    Row(unelf("absent.elf", "none.image"), 3, b"", r"read fault\n", files={"none.image": None}),
+    Row(elf("halt.image", "absent/x.elf"), 4, b"", "", files={"absent": None}),
+]
+
 
 # programs of the asynchronous language, and those that fault
 for title, (harts, given, text, out) in PROGRAMS.items():
@@ -436,7 +513,7 @@ for title, (harts, text, out, kind, place, processor) in FAULTS_OF_RUNS.items():
     report = rf"fault {kind} at {place} by processor {processor} after \d+ cycles\n"
     ROWS.append(Row(run(f"fault {title}.f95", harts=harts), 6, out, report))
 
-# programs with one group at a time, those that fault, and those that never end
+# programs with groups, those that fault, and those that never end
 for title, (harts, given, text, show, out) in (groups.PROGRAMS | frames.PROGRAMS | splits.PROGRAMS).items():
     FILES[f"group {title}.f95"] = text
     words = run(f"group {title}.f95", harts=harts) + (["--show", show] if show else [])
@@ -599,6 +676,82 @@ ROWS += [
 ]
 
 
+# Which PRAM a run needed.
+EREW = b"verdict EREW\nread none\nwrite none\n"
+
+
+def crew(address):
+    return re.compile(rb"verdict CREW\nread [1-9]\d* 0x%08x\nwrite none\n" % address)
+
+
+def crcw(address):
+    return re.compile(rb"verdict CRCW\nread none\nwrite [1-9]\d* 0x%08x\n" % address)
+
+
+SHARED_DATA = 0x10000000
+SOME_NUMBERS = b"7 3 9 1 5"
+FILES.update({path.name: path.read_bytes() for path in (TOP / "examples").glob("greatest_*.f95")})
+FILES.update(
+    {
+        "one_sum.f95": b"sh int x; void main(void) { x = 1 + 2 + 3; }",
+        "ranks.f95": b"sh int x; void main(void) { start { x = $; } }",
+        "own.f95": b"sh int y; sh int x[64]; void main(void) { start { x[$] = $; } }",
+        "prints.f95": b"sh int x; void main(void) { putint(x); }",
+        "faults.f95": b"sh int x; void main(void) { int *p = &x; if (__PROC_NR__ == 1) p = 0; x = *p; }",
+    }
+)
+ROWS += [
+    Row(audit("one_sum.f95"), 0, EREW, FINISHED),
+    Row(audit("ranks.f95", harts=4), 0, crcw(SHARED_DATA), FINISHED),
+    Row(audit("ranks.f95", harts=1024), 0, crcw(SHARED_DATA), FINISHED),
+    Row(audit("ranks.f95"), 0, EREW, FINISHED),
+    Row(audit("own.f95", harts=64), 0, EREW, FINISHED),
+    # the program's own output isn't written
+    Row(audit("prints.f95", harts=3), 0, crew(SHARED_DATA), FINISHED),
+    Row(audit("prints.f95", harts=3, cycles=0), 7, EREW, AT_ONCE),
+    Row(audit("greatest_erew.f95", harts=8), 0, EREW, FINISHED, given=SOME_NUMBERS),
+    Row(audit("greatest_crew.f95", harts=8), 0, crew(SHARED_DATA + 4), FINISHED, given=SOME_NUMBERS),
+    Row(audit("greatest_crcw.f95", harts=8), 0, crcw(SHARED_DATA), FINISHED, given=SOME_NUMBERS),
+    Row(audit("faults.f95", harts=2), 6, EREW, r"fault BadAddress at 1:75 by processor 1 after \d+ cycles\n"),
+    # what is refused, and in which order
+    Row(audit("undeclared.f95"), 1, b"", r"refused 8 Rule 1 at 1:26\n", given=b"x"),
+    Row(audit("empty.f95"), 10, b"", r"refused 19 NotANumber 2\n", given=b"12 x"),
+    Row(audit("absent.f95"), 3, b"", r"read fault\n"),
+    Row(audit("refused.f95"), 3, b"", r"read fault\n", given_from="."),
+    Row(audit("one_sum.f95"), 4, b"", "", out_to="/dev/full"),
+    Row(audit("one_sum.f95", harts=1025), 2, b"", r"refused command line\n"),
+    Row(audit("one_sum.f95") + ["--show", "x"], 2, b"", r"refused command line\n"),
+]
+
+# What the processors commit in each cycle.
+RANGES = rb"( \d+-\d+\*[1-9]\d*)+\n"
+EVENTS = rb"(g \d+ (split|shrink|end|resume|meet|agree)( \d+-\d+)+\n)*"
+
+
+def traced(harts):
+    """A trace of this many processors in which some commit."""
+    return re.compile(rb"fork95 trace 1\nharts %d\n(c [1-9]\d*%s%s)+end \d+\n" % (harts, RANGES, EVENTS))
+
+
+FILES["nothing.f95"] = b"void main(void) { }"
+ROWS += [
+    Row(trace("nothing.f95"), 0, re.compile(rb"fork95 trace 1\nharts 1\nc (\d+) 0-0\*1\nend \1\n"), FINISHED),
+    Row(trace("nothing.f95", harts=1024), 0, traced(1024), FINISHED),
+    Row(trace("nothing.f95", cycles=0), 7, b"fork95 trace 1\nharts 1\nend 0\n", AT_ONCE),
+    Row(trace("ranks.f95", harts=4), 0, traced(4), FINISHED),
+    # the program's own output isn't written
+    Row(trace("prints.f95", harts=3), 0, traced(3), FINISHED),
+    Row(trace("greatest_crew.f95", harts=8), 0, traced(8), FINISHED, given=SOME_NUMBERS),
+    Row(trace("faults.f95", harts=2), 6, traced(2), r"fault BadAddress at 1:75 by processor 1 after \d+ cycles\n"),
+    # what is refused, and in which order
+    Row(trace("undeclared.f95"), 1, b"", r"refused 8 Rule 1 at 1:26\n", given=b"x"),
+    Row(trace("empty.f95"), 10, b"", r"refused 19 NotANumber 2\n", given=b"12 x"),
+    Row(trace("absent.f95"), 3, b"", r"read fault\n"),
+    Row(trace("nothing.f95"), 4, b"", "", out_to="/dev/full"),
+    Row(trace("nothing.f95", harts=1025), 2, b"", r"refused command line\n"),
+]
+
+
 def limited(row):
     """What sets the limits of a row, if it has any, where its command begins."""
 
@@ -611,6 +764,10 @@ def limited(row):
             resource.setrlimit(resource.RLIMIT_FSIZE, (row.file_bytes, row.file_bytes))
 
     return limit if row.memory or row.file_bytes else None
+
+
+def is_output(out, wanted):
+    return bool(wanted.fullmatch(out)) if isinstance(wanted, re.Pattern) else out == wanted
 
 
 def faults(program, row, folder):
@@ -631,8 +788,8 @@ def faults(program, row, folder):
     out, report = ended.stdout or b"", (ended.stderr or b"").decode(errors="replace")
     if ended.returncode != row.status:
         yield f"status {ended.returncode}, not {row.status}"
-    if out != row.out:
-        yield f"standard output {out[:100]!r}, not {row.out[:100]!r}"
+    if not is_output(out, row.out):
+        yield f"standard output {out[:100]!r}, not {row.out!r:.100}"
     if not re.fullmatch(row.report, report):
         yield f"standard error {report[:200]!r}, not {row.report!r}"
     for name, wanted in row.files.items():

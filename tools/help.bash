@@ -7,6 +7,10 @@ Usage:
   fork95 build FILE -o IMAGE                           compile to an image
   fork95 exec IMAGE --harts P --cycles N               run an image
   fork95 list IMAGE                                    print an image's code
+  fork95 elf IMAGE -o FILE                             make an image's ELF file
+  fork95 unelf FILE -o IMAGE                           make the image of such a file
+  fork95 audit FILE --harts P --cycles N               compile, run, and tell which PRAM the run needed
+  fork95 trace FILE --harts P --cycles N               compile, run, and tell who does what when
   fork95 explain RULE|NAME                             explain a rule (1 to 40) or the name in a report
 
 P is 1 to 1024, N is 0 to 4294967295. Give no input by </dev/null.
@@ -99,30 +103,93 @@ help_with() {
 help_with_words() {
     local word
     case ${1-} in
-        run | exec)
+        run | exec | audit | trace)
             for word in --harts --cycles; do
                 [[ " $* " == *" $word"[\ =]* ]] || echo "$1 needs $word N."
             done ;;
-        build) [[ " $* " == *" -o"* ]] || echo "build needs -o IMAGE." ;;
+        build | elf | unelf) [[ " $* " == *" -o"* ]] || echo "$1 needs -o and the name of a file." ;;
         list) ;;
         *) echo "${1-} is no command." ;;
     esac
-    usage | head -6
+    usage | sed '/^$/,$d'
+}
+
+# Tells on standard error how long a run has gone on, after two seconds and then each second, in a line of its own. The
+# file $1 says what stands in the terminal's line: nothing, the time, or an open line of the program.
+tell_time() {
+    SECONDS=0
+    sleep 2
+    while true; do
+        {
+            flock 8
+            if [ "$(<"$1")" != open ]; then
+                printf '\r\033[Kfork95: running for %d s' "$SECONDS" >&2
+                echo time >"$1"
+            fi
+        } 8<"$1"
+        sleep 1
+    done
+}
+
+# Takes the time away again, where it stands.
+clear_time() {
+    if [ "$(<"$1")" = time ]; then
+        printf '\r\033[K' >&2
+        : >"$1"
+    fi
+}
+
+# Passes standard input on as it comes, past the time. What came before Ctrl-C is passed on too.
+pass_on() {
+    local piece
+    trap '' INT
+    piece=$(mktemp)
+    while dd bs=65536 count=1 of="$piece" status=none && [ -s "$piece" ]; do
+        {
+            flock 8
+            clear_time "$1"
+            cat "$piece"
+            if [ -n "$(tail -c 1 "$piece" | tr '\0' .)" ]; then echo open >"$1"; else : >"$1"; fi
+        } 8<"$1"
+    done
+    rm -f "$piece"
+}
+
+# Runs the program with the words given, its report into the file $1, and tells how long the run goes on.
+run_with_time() {
+    local report=$1 status=0
+    shift
+    tell_time "$screen" &
+    teller=$!
+    if [ -t 1 ]; then
+        "$program" "$@" 2>"$report" | pass_on "$screen"
+        status=${PIPESTATUS[0]}
+    else
+        "$program" "$@" 2>"$report" || status=$?
+    fi
+    { kill "$teller" && wait "$teller"; } 2>/dev/null || true
+    teller=
+    clear_time "$screen"
+    return "$status"
 }
 
 # Runs the program with the words given, and helps behind its report where standard error is a terminal.
 run_with_help() {
-    local report status=0 last
-    if [ -t 0 ] && [[ ${1-} == run || ${1-} == exec ]]; then
-        echo "fork95: reading input numbers; Ctrl-D ends them" >&2
-    fi
+    local report screen teller= status=0 last runs=
+    case ${1-} in run | exec | audit | trace) runs=1 ;; esac
     report=$(mktemp)
-    trap 'rm -f "$report"' EXIT
-    "$program" "$@" 2>"$report" || status=$?
+    screen=$(mktemp)
+    trap '[ -z "$teller" ] || kill "$teller" 2>/dev/null; rm -f "$report" "$screen"' EXIT
+    if [ -n "$runs" ] && [ ! -t 0 ]; then
+        run_with_time "$report" "$@" || status=$?
+    else
+        if [ -n "$runs" ]; then echo "fork95: reading input numbers; Ctrl-D ends them" >&2; fi
+        "$program" "$@" 2>"$report" || status=$?
+    fi
     cat "$report" >&2
     last=$(tail -n 1 "$report")
     case $status in
-        0 | 8 | 9) ;;
+        0 | 8 | 9 | 12) ;;
         *) help_with "$last" "$status" "$@" >&2 ;;
     esac
     exit "$status"

@@ -4,8 +4,8 @@
     tools/pages.py [PROGRAM]
 
 PROGRAM is ./fork95 where it isn't given. Of each example the first command in its comment is run, and its output is
-compared with the table below. Of README.md and docs/TUTORIAL.md each command that runs an example is run. The last line
-counts those that passed and failed.
+compared with the table below. Of README.md and docs/TUTORIAL.md each command that runs or audits an example is run. The
+last line counts those that passed and failed.
 """
 import re
 import subprocess
@@ -29,6 +29,9 @@ OUTPUTS = {
     "exclusive": lines(sum(1 for number in range(1, 47, 3) if number % 2 == 0)),
     "farm": lines(29, 1008),
     "few_of_many": lines("......", "......", "1.....", "55555.", "666666"),
+    "greatest_crcw": lines(max(range(3, 79, 5))),
+    "greatest_crew": lines(max(range(3, 79, 5))),
+    "greatest_erew": lines(max(range(3, 79, 5))),
     "group_library": lines(3, 4, 8, 9, 14, 23, 25, 31, 9, 1, 4, 5, 9, 6),
     "if_in_lockstep": lines("gggggggg", ".o.o.o.o", "ttteeeee", "...eeeee", "...lllll", ".....lll", ".......l", "gggggggg"),
     "hello": lines(0, 1, 2, 3, "that were all"),
@@ -76,9 +79,9 @@ def fault_of_example(example, program):
 
 
 def commands_of(page):
-    """The commands of a page that run an example."""
+    """The commands of a page that run or audit an example."""
     text = (TOP / page).read_text(encoding="utf-8")
-    return re.findall(r"^ {4}(?:\$ )?(.*\./fork95 run examples/.*)$", text, re.M)
+    return re.findall(r"^ {4}(?:\$ )?(.*\./fork95 (?:run|audit) examples/.*)$", text, re.M)
 
 
 def fault_of_command(command, program):

@@ -1,5 +1,5 @@
 #!/usr/bin/env python3
-"""Makes crates/fk_machine_tests/src/listing/texts.rt: words with the texts that GNU objdump reads in them.
+"""Makes crates/fk_machine_tests/src/listing/texts.rt: words with the texts that GNU objdump gives for them.
 
 The words are those that the GNU assembler gave for tools/riscv_vectors.py with three different registers, and those of EXTRA.
 Lay the file out by `rt fmt` afterwards. It wants riscv64-unknown-elf-objdump (Debian: binutils-riscv64-unknown-elf).
@@ -11,7 +11,7 @@ import tempfile
 from pathlib import Path
 
 TOP = Path(__file__).resolve().parent.parent
-VECTORS = TOP / "crates/fk_machine_tests/src/isa/vectors.rt"
+ASSEMBLED = TOP / "crates/fk_isa/proofs/Assembled.antt"
 OUT = TOP / "crates/fk_machine_tests/src/listing/texts.rt"
 # from the third set of registers on
 FIRST_VECTOR = 112
@@ -26,20 +26,18 @@ EXTRA = (
 
 
 def words():
-    number = r"0x[0-9a-f]{4}_[0-9a-f]{4}"
-    found = re.findall(rf"^    \(({number}),", VECTORS.read_text(), re.MULTILINE)
-    return [int(word.replace("_", ""), 16) for word in found][FIRST_VECTOR:] + EXTRA
+    found = re.findall(r"^    \((0x[0-9a-f]{8}), ", ASSEMBLED.read_text(encoding="utf-8"), re.MULTILINE)
+    return [int(word, 16) for word in found][FIRST_VECTOR:] + EXTRA
 
 
-def disassembled(numbers):
-    """The texts of objdump, of words that stand at the addresses 0, 4 and so on."""
-    with tempfile.TemporaryDirectory() as folder:
-        code = Path(folder) / "code"
-        code.write_bytes(struct.pack(f"<{len(numbers)}I", *numbers))
-        command = ["riscv64-unknown-elf-objdump", "-D", "-b", "binary", "-m", "riscv:rv32", "-M", "no-aliases", code]
-        printed = subprocess.run(command, check=True, capture_output=True, text=True).stdout
-    lines = re.findall(r"^ *([0-9a-f]+):\t[0-9a-f]{8} *\t(.*)$", printed, re.MULTILINE)
-    assert [int(address, 16) for address, _ in lines] == list(range(0, 4 * len(numbers), 4))
+def disassembled(file, first, last):
+    """The texts of objdump, of the words of a file from one offset to another, whatever else the file has."""
+    command = ["riscv64-unknown-elf-objdump", "-D", "-z", "-b", "binary", "-m", "riscv:rv32", "-M", "no-aliases"]
+    command += [f"--start-address={first}", f"--stop-address={last}", file]
+    printed = subprocess.run(command, check=True, capture_output=True, text=True).stdout
+    # behind a # it may tell an address that the instruction uses
+    lines = re.findall(r"^ *([0-9a-f]+):\t[0-9a-f]{8} *\t(.*?)(?: # .*)?$", printed, re.MULTILINE)
+    assert [int(address, 16) for address, _ in lines] == list(range(first, last, 4))
     return [text for _, text in lines]
 
 
@@ -61,13 +59,18 @@ def translated(address, text):
 
 def main():
     numbers = words()
-    texts = [translated(4 * i, text) for i, text in enumerate(disassembled(numbers))]
+    with tempfile.TemporaryDirectory() as folder:
+        code = Path(folder) / "code"
+        code.write_bytes(struct.pack(f"<{len(numbers)}I", *numbers))
+        lines = disassembled(code, 0, 4 * len(numbers))
+    texts = [translated(4 * i, text) for i, text in enumerate(lines)]
     rows = "".join(f'    (0x{n:08x}, b"{t}"),\n' for n, t in zip(numbers, texts))
     rows = re.sub(r"0x([0-9a-f]{4})([0-9a-f]{4}),", r"0x\1_\2,", rows)
     OUT.write_text(
-        "//! Words with the texts that GNU objdump reads in them, made by tools/riscv_texts.py.\n\n"
+        "//! Words with the texts that GNU objdump gives for them, made by tools/riscv_texts.py.\n\n"
         f"pub static TEXTS: [(u32, &[u8]); {len(numbers)}] = [\n{rows}];\n"
     )
 
 
-main()
+if __name__ == "__main__":
+    main()

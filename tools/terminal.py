@@ -40,7 +40,10 @@ ON_TERMINAL = [
     (["run", "endless.f95", *RUN], 7, ["stopped after 1000 cycles", "barrier"]),
     (["run", "absent.f95", *RUN], 3, ["read fault", "no file absent.f95"]),
     (["run", "good.f95", "--harts", "1"], 2, ["refused command line", "--cycles", "Usage"]),
-    (["fly"], 2, ["refused command line", "fly is no command"]),
+    (["audit", "good.f95", "--harts", "1"], 2, ["refused command line", "audit needs --cycles", "Usage"]),
+    (["fly"], 2, ["refused command line", "fly is no command", "fork95 explain"]),
+    (["unelf", "good.f95"], 2, ["refused command line", "unelf needs -o", "Usage"]),
+    (["unelf", "good.f95", "-o", "none.image"], 12, ["refused 28 ElfShort 31 148"]),
     (["run", "good.f95", *RUN], 0, ["7", "finished after"]),
 ]
 # the same, where numbers are typed on the terminal: what is typed comes last

@@ -1,5 +1,5 @@
 -- The code of statements and functions leads from a place to its end.
-use Rattle.std.proofs.Common.{◌≡◌, ℕ, zero, suc, Bool, true, false, true≢false, not, List, [], ◌∷◌, Option, Some, None, ap, ◌∙◌, sym, refl, subst}
+use Rattle.std.proofs.Common.{◌≡◌, ℕ, suc, Bool, true, false, true≢false, not, List, [], ◌∷◌, Option, Some, None, ap, ◌∙◌, sym, refl, subst}
 use Rattle.std.specs.Prelude.{if◌then◌else◌}
 use Rattle.fk_syntax.specs.declared.place.Spot.{Spot}
 use Rattle.fk_syntax.specs.Tree.{Tree}
@@ -12,23 +12,22 @@ use Rattle.fk_meaning_operation.specs.declared.operation.SplitKind.{SplitKind}
 use Rattle.fk_meaning_operation.specs.declared.operation.SplitKind.TheVariants.{IfAlone, IfElse, Fork}
 use Rattle.fk_meaning_operation.specs.declared.operation.SplitKind.TheVariants as sk
 use Rattle.fk_meaning_forms.specs.Code as c
-use Rattle.fk_meaning_forms.specs.Code.{Code, done, perform, choose, while, until, turn, again, quit, break, continue, call, ends}
+use Rattle.fk_meaning_forms.specs.Code.{done, choose, while, until, quit, ends}
 use Rattle.fk_meaning_forms.specs.Tables.{Tables, note, frame_at}
 use Rattle.fk_meaning_forms.specs.Expressions.{Coded, ResultLocation, nowhere, plain, agreed, token, Signature, addressed, assigned, dropped, framed, variable, value}
 use Rattle.fk_meaning_forms.specs.Statements.{Inside, is_scalar, used, used_or, value_or, declared, all_declared, part_frame, leaving, tested, looping, left_by, executed, all_executed, end_of, body_of}
 use Rattle.fk_meaning.specs.Behind.{is_shrink}
-use Rattle.fk_meaning.specs.Shape.{Exits, none, of_test, of_turn, Either, Shape}
+use Rattle.fk_meaning.specs.Shape.{none, of_test, of_turn, Either, Shape}
 use Rattle.fk_meaning.proofs.Spine.{untrue}
 use Rattle.fk_lockstep_tree.specs.Where.{Where, InRoot, Waits, InGroup, InBody, BehindBody, goes}
 use Rattle.fk_lockstep_structure.specs.Placed as w
 use Rattle.fk_lockstep_structure.specs.Placed.{Who, OfGroup, is_group, is_outermost, inner}
 use Rattle.fk_lockstep_structure.specs.InPlace.{Splits, Calls, InPlace, OptionInPlace, VariablesInPlace, NoneShared, StatementInPlace, StatementsInPlace}
-use Rattle.fk_lockstep_structure.proofs.Behind.{either_no, either_yes}
 use Rattle.fk_lockstep_tree.specs.Leads.{Comes, Loop, turning, Quits, Leads}
 use Rattle.fk_compile_text.specs.Plain.{is_plain}
 use Rattle.fk_lower_laws.specs.AllOf.{AllOf}
 use Rattle.fk_compile.proofs.Wants as wants
-use Rattle.fk_compile.proofs.Wants.{Base, Main, Root, Group, Body, place_of, in_group, who_of, inner_is, group_is, group_of, IsGroup, keeps_at, IsLeft, TurnsAt, LeftAt, Want, arm, within, end_of_part}
+use Rattle.fk_compile.proofs.Wants.{Base, Main, Root, Group, Body, place_of, in_group, who_of, inner_is, group_is, group_of, keeps_at, IsLeft, LeftAt, Want, arm, within, end_of_part}
 use Rattle.fk_compile.proofs.Tests as by_test
 
 -- ---- what is wanted of the parts of a loop, and of what `start` begins, and `farm` and `seq`

@@ -1,6 +1,8 @@
 -- The image that is put together of the code of a text's list.
 use Rattle.std.proofs.Common.{◌≡◌, ℕ, ◌^◌, ◌<◌, ◌≤◌, true, List, [], ◌∷◌, All, Ok, IfOk, length, refl, sym, ap, subst, ◌∙◌, arith}
-use Rattle.std.specs.Prelude.{Result, MatchResult, Vec, map, vec_len}
+use Rattle.std.specs.Prelude.{Result, MatchResult, map, vec_len}
+use Rattle.std.specs.declared.alloc.Global.{Global}
+use Rattle.std.specs.declared.vec.Vec.{Vec}
 use Rattle.std.specs.Result.{IsErrAnd}
 use Rattle.std.proofs.lemmas.List.{length-map}
 use Rattle.fk_syntax.specs.declared.facts.Facts.{Facts}
@@ -38,7 +40,7 @@ use Rattle.fk_gen_list.specs.Generable.{IsGenerable, HasCode, places_in}
 use Rattle.fk_compile_text.proofs.Parts.{kept as passed}
 use Rattle.fk_compile.specs.Lists.{HasListOf, IsGrouped}
 use Rattle.fk_compile.specs.Faithful.{in_image, in_table, words_by}
-use Rattle.fk_compile.proofs.Rooms.{all_levels, shrinks_deep}
+use Rattle.fk_compile.proofs.Rooms.{all_levels, shrinks_deep, parts_deep}
 use Rattle.fk_compile.proofs.Limits.{sites_fit, commits_fit, commits_rise}
 use Rattle.fk_compile.proofs.Theorem.{IsCompiled}
 
@@ -61,9 +63,9 @@ is_generable core ops kept kept' saved saved' main firsts given same_ops same_ke
     subst (λ (list : List CoreOp). IsGenerable list kept' saved' main given) (sym same_ops) with_kept
 
 -- the levels that are found for a list
-pub are_levels : {E D : Type 0} {Q : E → D → Type 0} (core ops : List CoreOp) (r : Result (Vec Levels) E) (m : Result (Vec Levels) D) (saved : Vec Levels) → ops ≡ core
+pub are_levels : {E D : Type 0} (Q : E → D → Type 0) (core ops : List CoreOp) (r : Result (Vec Levels Global) E) (m : Result (Vec Levels Global) D) (saved : Vec Levels Global) → ops ≡ core
     → IfOk r (λ v. AreLevels ops v.items) → MatchResult r (λ x. m ≡ Ok x) (λ e. IsErrAnd m (Q e)) → m ≡ Ok saved → AreLevels core saved.items
-are_levels core ops r m saved same levels cases was = subst (λ (list : List CoreOp). AreLevels list saved.items) same (passed _ _ r m saved levels cases was)
+are_levels Q core ops r m saved same levels cases was = subst (λ (list : List CoreOp). AreLevels list saved.items) same (passed _ Q r m saved levels cases was)
 
 -- the sites of a layout, as an image has them
 as_in_image : (all : List (ℕ × Place)) → map in_table (map site all) ≡ map in_image all
@@ -117,7 +119,7 @@ module _ (program : ProgramTree) (facts : Facts) (layout : Layout) (laid : IsLay
       given values =
           p.law image p.held.frames has p.held.suits p.held.keeps p.held.of_file (values core p.grouped.can.enough) (level_forks core) (levels_tell_forks core saved p.levels)
           (λ block start. all_levels core main (length layout.firsts.items) kept p.grouped.can.steady.within.begins p.grouped.can.steady.within.leads p.held p.least saved p.levels
-          (shrinks_deep core main p.grouped.can.nests) start block)
+          (shrinks_deep core main p.grouped.can.nests) (parts_deep core main p.grouped.can.nests) start block)
 
       pub is_compiled : StepsFindValues → IsCompiled program facts core main image
       is_compiled values = let law = given values in record {

@@ -7,7 +7,7 @@ use Rattle.fk_core.specs.Next.{is_jump}
 use Rattle.fk_core.specs.Numbers.{operation_of}
 use Rattle.fk_core.specs.WellFormed.{IsOperation, LeadsOn}
 use Rattle.fk_sim_block.proofs.Standing.{landing_here}
-use Rattle.fk_compile.proofs.Rooms.{level_words, shrinks_deep}
+use Rattle.fk_compile.proofs.Rooms.{level_words, shrinks_deep, parts_deep}
 use Rattle.fk_compile.specs.PlainLists.{GroupedListsAreGenerable}
 
 -- what is no jump is where an index leads, so it is an operation
@@ -29,7 +29,7 @@ grouped_lists_are_generable core kept saved main firsts can blocks leads live le
       suits = held.suits;
       keeps = held.keeps;
       of_file = held.of_file;
-      levels = level_words core main (length firsts) kept can.steady.within.begins can.steady.within.leads held least saved are (shrinks_deep core main can.nests)
+      levels = level_words core main (length firsts) kept can.steady.within.begins can.steady.within.leads held least saved are (shrinks_deep core main can.nests) (parts_deep core main can.nests)
           (record { there = λ i. record { at = 0; changes = λ r. false }; coming = λ i h. h });
       words = words;
       first_words = first_words;

@@ -17,25 +17,26 @@ use Rattle.fk_core.specs.declared.op.CoreOp.{CoreOp}
 use Rattle.fk_core.specs.Numbers.{operation_of}
 use Rattle.fk_core.specs.Next.{is_jump, behind_jump, follows}
 use Rattle.fk_core_levels.specs.Count.{read, counts}
+use Rattle.fk_core_levels.specs.Count as counting
 use Rattle.fk_core_levels.specs.Behind.{up_to, named, leads_by, leads, goes_on_by, goes_on}
 use Rattle.fk_core_levels.specs.Forks.{level_forks}
 use Rattle.fk_core_levels.specs.Levels.{behind_in, AreLevels}
 use Rattle.fk_core_liveness.specs.declared.set.Set.{Set}
 use Rattle.fk_core_liveness.specs.declared.places.FunctionKind.TheVariants.{Main}
-use Rattle.fk_core_liveness.specs.Frames.{kept_in, is_main_place}
+use Rattle.fk_core_liveness.specs.Frames.{is_main_place}
 use Rattle.fk_core_liveness.specs.Live.{reads, kept_behind, asked_by, asked_of, IsLive, IsLeast, words_in}
 use Rattle.fk_core_liveness.proofs.Asked.{split_or}
 use Rattle.fk_core_typing.specs.Laws.{LeadsWithin}
 use Rattle.fk_core_typing.specs.Values.{Place, with_frame, entered, place_behind}
 use Rattle.fk_lockstep_frames.specs.Nests.{Nest, OfFunction, OfPart, nesting, levels_of, left_by_fork, forks_of, is_numbered, take_frame, IsInPart}
 use Rattle.fk_gen.specs.declared.placed.Levels.{Levels}
-use Rattle.fk_gen.specs.Levels.{told_levels, levels_in}
+use Rattle.fk_gen.specs.Levels.{levels_in}
 use Rattle.fk_gen.specs.Keeps.{peak}
 use Rattle.fk_gen_group.specs.Blocks.{is_group_step, HasLevelWords}
 use Rattle.fk_gen_group.specs.InNode.{LevelsFit}
 use Rattle.fk_gen_group.specs.Laws.{GoesOnWith, GoesAside, LeavesBy, last_fork}
 use Rattle.fk_gen_list.specs.Generable.{places_in}
-use Rattle.fk_gen_list.specs.Laws.{HaveLevels, HaveStepLevels, leads_away, nestings_of, EndsLevel, OpensLevel}
+use Rattle.fk_gen_list.specs.Laws.{leads_away, nestings_of, EndsLevel, OpensLevel}
 use Rattle.fk_gen_list.specs.Whole.{HaveAllLevels}
 use Rattle.fk_sim_block.specs.Next.{OpAt}
 use Rattle.fk_sim_block.specs.Node.{Gathering, Nestings, HasLevelRoom}
@@ -159,9 +160,37 @@ shrinks_deep core main tells i op at is n counted =
     let same = some_same level n (slice_get (counts core) i) (tells.levels.levels i (slice_get_within core i op at)) counted in
     subst (λ m. 1 ≤ m) same (tells.levels.shrinks i op at is)
 
+-- and of the parts that a call is in
+parts_low : (main : Bool) (nests : List Nest) → nesting nests ≤ suc (levels_of main nests)
+parts_low true nests = omega arith
+parts_low false nests = omega arith
+
+abbrev pub AreDeep : List CoreOp → Type 0
+AreDeep core = (i n m : ℕ) → i < length core → slice_get (counts core) i ≡ Some n → slice_get (counting.nests core) i ≡ Some m → m ≤ suc n
+
+pub parts_deep : (core : List CoreOp) (main : ℕ) → TellsNests core main → AreDeep core
+parts_deep core main tells i n m lt counted nested =
+    let local = tells.local in
+    let level = levels_of (local.in_main i) (local.nests i) in
+    let parts = nesting (local.nests i) in
+    let same = some_same level n (slice_get (counts core) i) (tells.levels.levels i lt) counted in
+    let same' = some_same parts m (slice_get (counting.nests core) i) (tells.levels.parts i lt) nested in
+    subst (λ x. x ≤ suc n) same' (subst (λ x. parts ≤ suc x) same (parts_low (local.in_main i) (local.nests i)))
+
+count_at : (saved : List Levels) (i : ℕ) → i < length saved → slice_get (map (λ (l : Levels). l.count) saved) i ≡ Some (levels_in saved i).count
+count_at [] i lt = absurd (let z : ⊥ = omega (arith, lt) in z)
+count_at (l ∷ saved) zero lt = refl
+count_at (l ∷ saved) (suc i) lt = count_at saved i (omega (arith, lt))
+
+nest_at : (saved : List Levels) (i : ℕ) → i < length saved → slice_get (map (λ (l : Levels). l.nest) saved) i ≡ Some (levels_in saved i).nest
+nest_at [] i lt = absurd (let z : ⊥ = omega (arith, lt) in z)
+nest_at (l ∷ saved) zero lt = refl
+nest_at (l ∷ saved) (suc i) lt = nest_at saved i (omega (arith, lt))
+
 module _ (core : List CoreOp) (main firsts : ℕ) (kept : List Set) (begins : main < length core) (within : LeadsWithin core) (held : HasFrames core kept main firsts) (least : IsLeast core (words_in kept))
     (saved : List Levels) (are : AreLevels core saved)
-    (shrinks : (i : ℕ) (op : CoreOp) → slice_get core i ≡ Some op → read op ≡ Some o.Shrink → (n : ℕ) → slice_get (counts core) i ≡ Some n → 1 ≤ n) where
+    (shrinks : (i : ℕ) (op : CoreOp) → slice_get core i ≡ Some op → read op ≡ Some o.Shrink → (n : ℕ) → slice_get (counts core) i ≡ Some n → 1 ≤ n)
+    (deep : AreDeep core) where
   abbrev places : ℕ → Place
   places = held.rooms.rooms.places
 
@@ -182,6 +211,14 @@ module _ (core : List CoreOp) (main firsts : ℕ) (kept : List Set) (begins : ma
 
   count_is : (i : ℕ) → i < length core → (levels_in saved i).count ≡ level i
   count_is i lt = told_count saved i (level i) (ap (λ (ns : List ℕ). slice_get ns i) are.count ∙ held.rooms.counted i lt)
+
+  -- the frame has the levels of all parts but one
+  nest_low : (i : ℕ) → i < length core → (levels_in saved i).nest ≤ suc (levels_in saved i).count
+  nest_low i lt =
+      let in_saved : i < length saved = subst (λ n. i < n) (sym are.long) lt in
+      deep i (levels_in saved i).count (levels_in saved i).nest lt
+      (ap (λ (ns : List ℕ). slice_get ns i) (sym are.count) ∙ count_at saved i in_saved)
+      (ap (λ (ns : List ℕ). slice_get ns i) (sym are.nest) ∙ nest_at saved i in_saved)
 
   low : (i : ℕ) → behind i ≤ words i
   low i = are.least words held.rooms.bound i
@@ -380,6 +417,7 @@ module _ (core : List CoreOp) (main firsts : ℕ) (kept : List Set) (begins : ma
             stay = λ onward.
                 same_on i op (o.Set (v.Private k)) at onward (follows core (o.Set (v.Private k)) i op.target [] onward).at (leads_is i op (o.Set (v.Private k)) at onward)
                 (within_on i op (o.Set (v.Private k)) at refl onward) (places i) (f.goes_on onward) refl (λ n less. refl);
+            nest = nest_low i (lt i op (o.Set (v.Private k)) at);
           }
       alone_fit i op operation at alone =
           let f = fits i op operation at in
@@ -390,6 +428,7 @@ module _ (core : List CoreOp) (main firsts : ℕ) (kept : List Set) (begins : ma
             stay = λ onward.
                 same_on i op operation at onward (follows core operation i op.target [] onward).at (leads_is i op operation at onward) (within_on i op operation at refl onward)
                 (places i) (f.goes_on onward) refl (λ n less. refl);
+            nest = nest_low i (lt i op operation at);
           }
 
       -- ---- steps of groups

@@ -6,7 +6,7 @@ use Rattle.fk_syntax.specs.Tree.{Tree}
 use Rattle.fk_meaning_operation.specs.declared.operation.Operation.TheVariants as o
 use Rattle.fk_meaning_forms.specs.Code.{done, choose, quit}
 use Rattle.fk_meaning_forms.specs.Tables.{Tables, note}
-use Rattle.fk_meaning_forms.specs.Expressions.{Coded, Signature, nowhere, plain, agreed}
+use Rattle.fk_meaning_forms.specs.Expressions.{Coded, Signature, nowhere, agreed}
 use Rattle.fk_meaning_forms.specs.Statements.{leaving, tested}
 use Rattle.fk_meaning.specs.Shape.{of_test, ends_part, Shape}
 use Rattle.fk_meaning.proofs.Spine.{untrue}

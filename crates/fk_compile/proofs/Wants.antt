@@ -23,7 +23,7 @@ use Rattle.fk_meaning.specs.Shape.{Exits, none, of_arm, ends_part, has_two_parts
 use Rattle.fk_meaning.proofs.Spine.{untrue}
 use Rattle.fk_meaning.proofs.Kept.{entered}
 use Rattle.fk_lockstep.proofs.Kept as k
-use Rattle.fk_lockstep.proofs.Kept.{is_of_value, SharesAgree, all_agree, IsKept}
+use Rattle.fk_lockstep.proofs.Kept.{SharesAgree, all_agree, IsKept}
 use Rattle.fk_lockstep_tree.specs.Where.{Where, InRoot, Waits, InGroup, InBody, goes, stays}
 use Rattle.fk_lockstep_structure.specs.Placed.{Who, OfGroup, OfBody, OfMain, is_group, inner}
 use Rattle.fk_lockstep_structure.specs.InPlace.{Splits, Calls, InPlace, NoneShared}

@@ -1,5 +1,5 @@
 -- At each index of a list its counts are the levels of the states, for each system of states that keeps their places.
-use Rattle.std.proofs.Common.{◌≡◌, ◌⊎◌, ℕ, zero, suc, ◌+◌, ◌-◌, ◌<◌, ◌≤◌, Bool, true, false, true≢false, List, [], ◌∷◌, length, slice_get, Option, Some, None, inl, inr, refl, sym, ap, ◌∙◌, subst, arith}
+use Rattle.std.proofs.Common.{◌≡◌, ◌⊎◌, ℕ, zero, suc, ◌+◌, ◌-◌, ◌<◌, ◌≤◌, Bool, false, List, [], ◌∷◌, length, slice_get, Option, Some, None, inl, inr, refl, sym, ap, ◌∙◌, subst, arith}
 use Rattle.std.proofs.lemmas.Bool.{cases_lt}
 use Rattle.std.proofs.lemmas.Option.{slice_get_within}
 use Rattle.fk_meaning_operation.specs.declared.operation.Operation.TheVariants.{Split, Shrink}
@@ -15,10 +15,10 @@ use Rattle.fk_core_flat.specs.Flat.{extent, flat}
 use Rattle.fk_core_flat.specs.Shape.{is_closed}
 use Rattle.fk_core_flat.proofs.Lengths.{flat_length}
 use Rattle.fk_core_liveness.specs.declared.places.FunctionKind.{FunctionKind}
-use Rattle.fk_core_liveness.specs.declared.places.FunctionKind.TheVariants.{Main, Called}
+use Rattle.fk_core_liveness.specs.declared.places.FunctionKind.TheVariants.{Main}
 use Rattle.fk_core_liveness.specs.Frames.{is_main_place}
 use Rattle.fk_core_typing.specs.Laws.{IsTypedList, LiesIn}
-use Rattle.fk_core_typing.specs.Values.{Place, State, with_frame, entered, bare, behind, behind_call, place_behind}
+use Rattle.fk_core_typing.specs.Values.{Place, State, with_frame, entered, bare, behind}
 use Rattle.fk_core_typing.proofs.System.{System, Judged, IsLawful}
 use Rattle.fk_core_typing.proofs.Marks.{Noted, marks, mark_length}
 use Rattle.fk_core_typing.proofs.Listed.{state, noted, has_below}

@@ -1,6 +1,6 @@
 -- Along code, as it is written into a list, the counts of the list are the levels of the states at its indices.
-use Rattle.std.proofs.Common.{◌≡◌, ◌⊎◌, ℕ, zero, suc, ◌+◌, ◌-◌, ◌<◌, ◌≤◌, Bool, true, false, true≢false, List, [], ◌∷◌, ◌++◌, length, slice_get, Option, Some, None, inl, inr, refl, sym, ap, ◌∙◌, subst, arith, length-append}
-use Rattle.std.specs.Prelude.{◌==◌, ◌&&◌, ◌||◌, is_some, if◌then◌else◌}
+use Rattle.std.proofs.Common.{◌≡◌, ◌⊎◌, ℕ, suc, ◌+◌, ◌-◌, ◌≤◌, Bool, true, false, true≢false, List, [], ◌∷◌, ◌++◌, length, slice_get, Option, Some, None, inl, inr, refl, sym, ap, ◌∙◌, subst, arith, length-append}
+use Rattle.std.specs.Prelude.{◌||◌}
 use Rattle.fk_meaning_operation.specs.declared.operation.Operation.{Operation}
 use Rattle.fk_meaning_operation.specs.declared.operation.Operation.TheVariants as o
 use Rattle.fk_meaning_operation.specs.declared.operation.SplitKind.TheVariants as sk
@@ -13,21 +13,20 @@ use Rattle.fk_core.specs.declared.op.CoreOp.{CoreOp}
 use Rattle.fk_core.specs.Next.{is_jump}
 use Rattle.fk_core.specs.CodeAt.{Around}
 use Rattle.fk_core_flat.specs.Items as w
-use Rattle.fk_core_flat.specs.Items.{Item, jump, act, IsItem, Has, Way, way_of, goes_away, aim}
+use Rattle.fk_core_flat.specs.Items.{Item, jump, act, IsItem, Has, way_of, goes_away, aim}
 use Rattle.fk_core_flat.specs.Flat.{begins_here, skip, gap, extent, behind, label, flat}
 use Rattle.fk_core_flat.specs.Shape.{is_done, IsOpening, IsShaped}
 use Rattle.fk_core_flat.proofs.Having.{has_front, has_back}
-use Rattle.fk_core_flat.proofs.Lengths.{skips, flat_length}
+use Rattle.fk_core_flat.proofs.Lengths.{skips}
 use Rattle.fk_core_flat.proofs.Parts.{choice_at, turns_at, rounds_at, entering_at, has_choice, has_turns, has_rounds, has_entering}
 use Rattle.fk_core_flat.proofs.CodeAt.{opening_begins}
 use Rattle.fk_core_liveness.specs.declared.places.FunctionKind.{FunctionKind}
 use Rattle.fk_core_liveness.specs.declared.places.FunctionKind.TheVariants.{Called}
-use Rattle.fk_core_liveness.specs.Frames.{is_main_place}
 use Rattle.fk_core_typing.specs.Values.{Place, with_frame, entered, place_behind, MayBeIn}
 use Rattle.fk_core_typing.proofs.Done.{by_done}
 use Rattle.fk_core_typing.proofs.System.{System, Loop, Judged}
 use Rattle.fk_core_typing.proofs.Marks.{skip_mark, skip_length, marks, mark_length}
-use Rattle.fk_lockstep_structure.specs.Placed.{Who, OfBody, is_main, inner, who_in, callee_of, may_perform, may_choose, Placed}
+use Rattle.fk_lockstep_structure.specs.Placed.{Who, OfBody, inner, who_in, callee_of, may_perform, Placed}
 use Rattle.fk_core_levels.specs.Count.{read, enters}
 use Rattle.fk_core_counting.specs.Laws.{under, takes_in_part, ShrinksIn, FramesIn}
 use Rattle.fk_core_counting.proofs.Folding.{Parts, none, at, past, worded, Fold, fold, step, told_by, after_operation, told_of_operation, none_read, after_jump, told_of_jump, opening_goes_on}

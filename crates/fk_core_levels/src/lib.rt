@@ -6,7 +6,5 @@ mod behind;
 mod count;
 mod open;
 mod pass;
-#[cfg(test)]
-mod tests;
 
 pub use pass::levels;

@@ -23,11 +23,11 @@ use Rattle.fk_isa.specs.declared.instruction.Instruction.{Instruction}
 use Rattle.fk_isa.specs.declared.instruction.Instruction.TheVariants.{Lui, Addi, Slli, Add, Mul, Lw, Sw}
 use Rattle.fk_machine.specs.Hart.{Hart, Setting as MachineSetting}
 use Rattle.fk_sim_block.specs.Owner.{Owner, number_of, owner_of}
-use Rattle.fk_sim_block.specs.Stands.{Places, HasRoom, IsGroupFrame, TellsFrame, frame_start, local_address, value_in, StandsFor, zero_register, frame_register, end_register, local_register, device_register, number_register, rank_register, size_register, group_frame_register}
+use Rattle.fk_sim_block.specs.Stands.{Places, HasRoom, IsGroupFrame, TellsFrame, frame_start, local_address, value_in, StandsFor, zero_register, frame_register, local_register, device_register, number_register, rank_register, size_register, group_frame_register}
 use Rattle.fk_sim_block.specs.Next.{OpAt}
 use Rattle.fk_sim_block.specs.Suits.{Fits, Flows, writes}
 use Rattle.fk_sim_block.specs.Block.{Enters}
-use Rattle.fk_sim_block.specs.Node.{node_register, control_address}
+use Rattle.fk_sim_block.specs.Node.{control_address}
 use Rattle.fk_gen.specs.declared.placed.Levels.{Levels}
 use Rattle.fk_gen.specs.Parts.{outward, node_word, node_by, FindsNode, FindsPart}
 use Rattle.fk_gen.specs.InPlace.{HasBlock}
@@ -39,7 +39,7 @@ use Rattle.fk_gen_expr.specs.Expressions.{IsExpression, expression_block, load_n
 use Rattle.fk_gen_expr.specs.Law.{ExpressionsDo, ExpressionsKeep}
 use Rattle.fk_gen.specs.Operands.{operand, result}
 use Rattle.fk_gen.proofs.ValueLines.{place_reached, operand_line, result_line, operand_runs, result_runs, operand_is, earlier_is, result_keeps, result_stands}
-use Rattle.fk_gen.proofs.Values.{other_word, values_before, joined_is, value_place, private_place, own_place, number_of_parts, number_of_low_part, sum_of_low, sum_of_parts}
+use Rattle.fk_gen.proofs.Values.{other_word, values_before, joined_is, private_place, own_place, number_of_parts, number_of_low_part, sum_of_low, sum_of_parts}
 use Rattle.fk_gen.proofs.Does.{local_doing, does_of}
 use Rattle.fk_gen.proofs.Standing.{InMemory, in_memory, stands_with, with_list, nothing_written, private_written, own_written}
 use Rattle.fk_gen.specs.Registers.{t0, t1, t2}

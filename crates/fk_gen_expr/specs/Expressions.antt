@@ -28,7 +28,7 @@ use Rattle.fk_isa.specs.declared.instruction.Instruction.{Instruction}
 use Rattle.fk_isa.specs.declared.instruction.Instruction.TheVariants.{Lui, Addi, Slli, Add, Mul, Lw}
 use Rattle.fk_isa.specs.declared.instruction.Instruction.TheVariants.{Sw}
 use Rattle.fk_asm.specs.Block.{MarkedLine}
-use Rattle.fk_sim_block.specs.Stands.{frame_register, end_register, number_register, rank_register}
+use Rattle.fk_sim_block.specs.Stands.{frame_register, number_register, rank_register}
 use Rattle.fk_sim_block.specs.Stands.{size_register, local_register, device_register}
 use Rattle.fk_gen.specs.declared.placed.Levels.{Levels}
 use Rattle.fk_gen.specs.declared.placed.Placed.{Placed}

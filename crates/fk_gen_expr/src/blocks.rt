@@ -128,8 +128,8 @@ fn get(
     requires room { length into.old.lines
         + length (first_commits (code.get_code globals levels depth known)) < 2 ^ 30 }
     requires free { AreFollowed into.old }
-    ensures added { OnOk result
-        (into.new ≡ with_block into.old (first_commits (code.get_code globals levels depth known))) }
+    ensures added { OnOk result (into.new ≡ with_block into.old
+        (first_commits (code.get_code globals levels depth known))) }
     ensures begun { OnErr result
         (HasBegun (first_commits (code.get_code globals levels depth known)) into.old into.new) }
 {

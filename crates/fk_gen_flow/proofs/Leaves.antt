@@ -128,8 +128,7 @@ caller_groups places m m' address backs calls l gives v same held =
     let frames = places.frames in
     let here : HaveGroupFrames frames m address (l.back ∷ l.backs') (l.call ∷ l.calls') =
     subst (λ cs. HaveGroupFrames frames m address (l.back ∷ l.backs') cs) l.are_calls (subst (λ is. HaveGroupFrames frames m address is calls) l.are_backs held) in
-    let kept = groups_kept frames m m' address (l.back ∷ l.backs') (l.call ∷ l.calls') (λ k lt. same k (omega arith)) here in
-    (
+    let kept = groups_kept frames m m' address (l.back ∷ l.backs') (l.call ∷ l.calls') (λ k lt. same k (omega arith)) here in (
       told_on (frames.group l.back) address l.call (handed gives v l.call) (ap (λ (f : ℕ → ℕ). f 0) (handed_frames gives v l.call)) kept.0,
       kept.1,
     )

@@ -10,10 +10,10 @@ use Rattle.fk_meaning.specs.Group.{taken_by}
 use Rattle.fk_core.specs.Numbers.{operation_of}
 use Rattle.fk_image.specs.declared.Image.{Image}
 use Rattle.fk_isa.specs.declared.instruction.Instruction.{Instruction}
-use Rattle.fk_isa.specs.declared.instruction.Instruction.TheVariants.{Lui, Jal, Jalr, Beq, Bltu, Bgeu}
-use Rattle.fk_isa.specs.declared.instruction.Instruction.TheVariants.{Lw, Sw, Addi, Sltiu, Slli, Srli}
-use Rattle.fk_isa.specs.declared.instruction.Instruction.TheVariants.{Andi, Add, Sub, Sltu, And, Mul}
-use Rattle.fk_isa.specs.declared.instruction.Instruction.TheVariants.{AmoAddW}
+use Rattle.fk_isa.specs.declared.instruction.Instruction.TheVariants.{Lui, Jal, Jalr, Beq, Bltu}
+use Rattle.fk_isa.specs.declared.instruction.Instruction.TheVariants.{Bgeu, Lw, Sw, Addi, Sltiu}
+use Rattle.fk_isa.specs.declared.instruction.Instruction.TheVariants.{Slli, Srli, Andi, Add, Sub}
+use Rattle.fk_isa.specs.declared.instruction.Instruction.TheVariants.{Sltu, And, Mul, AmoAddW}
 use Rattle.fk_asm.specs.Block.{MarkedLine}
 use Rattle.fk_sim_block.specs.Stands.{end_register, number_register, rank_register, size_register}
 use Rattle.fk_sim_block.specs.Stands.{device_register}
@@ -82,8 +82,8 @@ end_block target =
 -- ---- frames and blocks
 
 -- The two ways of a frame have equally many lines. With room the frames of the group end where the
--- frame does. A function's own frame comes to the register of group frames, and the header gets what
--- that register had. Nothing more tells a part's frame, and two lines only take their time.
+-- frame does. A function's own frame comes to the register of group frames, and the header gets
+-- what that register had. Nothing more tells a part's frame, and two lines only take their time.
 abbrev pub first_taking : (own : Bool) → Instruction
 first_taking true = Sw end_register group_frame_register at_group_frame
 first_taking false = Addi t1 t1 0

@@ -28,8 +28,8 @@ use Rattle.fk_sim_block.specs.Law.{Cycles, BlockDoesInNode, BlockJumpsInNode}
 use Rattle.fk_gen_group.specs.Laws.{levels_at}
 
 -- The levels of the running call have room beside the values of an operation and the private words
--- that it writes, and the call goes on with these levels. The frame has the levels of all parts that
--- the call is in, but perhaps that of the outermost.
+-- that it writes, and the call goes on with these levels. The frame has the levels of all parts
+-- that the call is in, but perhaps that of the outermost.
 pub record HasLevels (core : List CoreOp) (places : Places) (nestings : Nestings) (i : ℕ)
     (op : CoreOp) (operation : Operation) : Type 0 where
   pub few : places.frames.of_file ≤ 56
@@ -64,8 +64,8 @@ LevelsFit core places nestings i op (Enter arguments) =
 LevelsFit core places nestings i op (Leave gives framed) = HasNoLevels places nestings i
 LevelsFit core places nestings i op operation = HasLevels core places nestings i op operation
 
--- The block of an operation does it in this many cycles, and keeps what must be kept, where its hart
--- finds the frame of a part of which it gets a word.
+-- The block of an operation does it in this many cycles, and keeps what must be kept, where its
+-- hart finds the frame of a part of which it gets a word.
 abbrev pub BlockKeepsIn : (core : List CoreOp) → Image → Places → Levels → (before : ℕ)
     → (behind : (onward : Bool) → ℕ) → (i : ℕ) → CoreOp → Operation → Type 0
 BlockKeepsIn core image places levels before behind i op operation =

@@ -85,8 +85,8 @@ pub fn groups_take_frames()
     ensures { GroupsTakeFrames }
 {}
 
-/// Members in lockstep that come to the block of `shalloc` commit in that cycle. Twelve cycles later
-/// each has the address of the words in place of their size, or 0, and is at the next block.
+/// Members in lockstep that come to the block of `shalloc` commit in that cycle. Twelve cycles
+/// later each has the address of the words in place of their size, or 0, and is at the next block.
 pub fn groups_take_blocks()
     ensures { GroupsTakeBlocks }
 {}

@@ -1,5 +1,5 @@
 -- The law of a list.
-use Rattle.std.proofs.Common.{◌≡◌, ℕ, ◌+◌, ◌*◌, ◌≤◌, List, [], length, arith, Option, Bool, true, false, Some, sym, subst, refl}
+use Rattle.std.proofs.Common.{◌≡◌, ℕ, List, [], length, arith, Option, Bool, true, false, Some, sym, subst, refl}
 use Rattle.std.specs.Prelude.{slice_get}
 use Rattle.std.specs.Option.{option_map_or}
 use Rattle.fk_meaning_operation.specs.declared.operation.Operation.{Operation}

@@ -10,7 +10,7 @@ use Rattle.fk_gen.specs.Keeps.{peak}
 use Rattle.fk_sim_block.specs.Node.{Gathering, HasLevelRoom}
 use Rattle.fk_gen_group.specs.InNode.{LevelsFit, HasLevels}
 use Rattle.fk_gen_group.specs.Laws.{GoesOnWith}
-use Rattle.fk_gen_list.specs.Laws.{HasNoParts, is_parting, nestings_of, LevelsNeedNoRoom}
+use Rattle.fk_gen_list.specs.Laws.{is_parting, nestings_of, LevelsNeedNoRoom}
 
 room_of : (frames : Frames) (start : Gathering) (index values : ℕ) → HasRoom frames index values → HasLevelRoom frames (nestings_of [] (λ index level. None) start) index values
 room_of frames start index values room = let header = room.header in record { room = omega arith; apart = λ some. absurd (omega arith) }

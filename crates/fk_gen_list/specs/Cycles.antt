@@ -77,7 +77,8 @@ abbrev pub behind_at : List CoreOp → (globals : ℕ) → List Set → List Lev
     → Option CoreOp → (onward : Bool) → ℕ
 behind_at core globals kept saved index None onward = 0
 behind_at core globals kept saved index (Some op) onward =
-    option_map_or (λ operation. behind_of (placed core globals kept saved index op) operation onward)
+    option_map_or
+    (λ operation. behind_of (placed core globals kept saved index op) operation onward)
     (operation_of op.kind op.number) 0
 
 -- The cycles in an image with this many words of globals, where calls keep these words.

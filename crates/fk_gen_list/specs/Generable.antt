@@ -145,8 +145,8 @@ pub record HasWholeCode (core : List CoreOp) (kept : List Set) (saved : List Lev
   pub parts : HasParts image bound
 
 -- Each image with this code has all of it, with each label bound to a word.
-abbrev pub GivesWholeCode : (core : List CoreOp) (kept : List Set) (saved : List Levels) (main : ℕ) (firsts : List ℕ)
-    (globals : ℕ) → Code → Type 0
+abbrev pub GivesWholeCode : (core : List CoreOp) (kept : List Set) (saved : List Levels)
+    (main : ℕ) (firsts : List ℕ) (globals : ℕ) → Code → Type 0
 GivesWholeCode core kept saved main firsts globals code =
     (image : Image) (frames : Frames) → HasCode code globals image → frames.of_file ≡ length firsts
     → (block : (index : ℕ) → ℕ) × ((bound : (label : ℕ) → ℕ)

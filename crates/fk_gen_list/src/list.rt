@@ -16,10 +16,10 @@ use std::alloc::{AllocError, Global};
 /// The code of a list of operations, without a `fork`. Each image with it has the law of blocks of
 /// groups.
 ///
-/// `kept` has the private words that calls keep at each index, `saved` the levels of groups in their
-/// frames, `main` is the index where the program begins, `firsts` are the first values of private
-/// variables of file scope, and the image has `globals` words of globals. Fails where there isn't
-/// enough memory.
+/// `kept` has the private words that calls keep at each index, `saved` the levels of groups in
+/// their frames, `main` is the index where the program begins, `firsts` are the first values of
+/// private variables of file scope, and the image has `globals` words of globals. Fails where there
+/// isn't enough memory.
 pub fn generate(
     alloc: Global,
     ops: &[CoreOp],

@@ -1,3 +1,4 @@
+pub mod Events
 pub mod Limits
 pub mod Refusals
 pub mod Spelling

@@ -6,11 +6,13 @@
 //! code, the globals, the sites of three words each, and the commits of two, and nothing else.
 #![tactic(auto)]
 
+mod event;
 mod fault;
 pub mod laws;
 mod reading;
 mod writing;
 
+pub use event::Event;
 pub use fault::ImageFault;
 pub use reading::read_image;
 pub use writing::write_image;

@@ -7,5 +7,8 @@ pub mod Harts
 pub mod Cycled
 pub mod Opened
 pub mod Runs
+pub mod Stopped
+pub mod Table
 pub mod Places
 pub mod Performs
+pub mod Rows

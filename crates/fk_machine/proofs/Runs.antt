@@ -4,7 +4,7 @@ use Rattle.fk_image.specs.declared.Image.{Image}
 use Rattle.fk_machine.specs.declared.stand.Stand.{Stand}
 use Rattle.fk_machine.specs.declared.stand.Stand.TheVariants.{Running, Finished, Faulted, Trapped}
 use Rattle.fk_machine.specs.Cycle.{Machine, is_running, after_turns, turns_of, unprinted, cycle, machine_opening}
-use Rattle.fk_machine.specs.Run.{machine, output_of, after, output_in, rounds, round_of}
+use Rattle.fk_machine.specs.Run.{machine, output_of, after, output_in, committed, committed_in, rounds, round_of}
 
 begun-cond : (b : Bool) (m m' : Machine) (n : ℕ) → m.begun ≤ n → m'.begun ≤ n → (cond b m' m).begun ≤ n
 begun-cond true m m' n old new = new
@@ -124,6 +124,25 @@ output_in-quiet m (suc (suc k)) e =
     ap (λ (l : Machine). cond (is_running l.stand) (before ++ (cycle l).shared.output) before) (after-quiet m (suc k) (omega arith) e)
     ∙ ap (λ o. cond (is_running (after (suc k) m).stand) (o ++ (after (suc (suc k)) m).shared.output) o) (output_in-quiet m (suc k) e)
 
+-- nor does it change a stand
+pub stand-quiet : (m : Machine) (k : ℕ) → is_running m.stand ≡ true → (after k (quiet m)).stand ≡ (after k m).stand
+stand-quiet m zero e = refl
+stand-quiet m (suc k) e = ap (λ (l : Machine). l.stand) (after-quiet m (suc k) (omega arith) e)
+
+-- a machine that runs has run before its last cycle
+pub running-before : (m : Machine) (k : ℕ) → is_running (after k m).stand ≡ true → is_running (after (k - 1) m).stand ≡ true
+running-before m zero e = let z : zero - 1 ≡ zero = omega arith in ap (λ i. is_running (after i m).stand) z ∙ e
+running-before m (suc k) e =
+    let p : suc k - 1 ≡ k = omega arith in
+    ap (λ i. is_running (after i m).stand) p ∙ ran (is_running (after k m).stand) refl
+  where
+    ran : (b : Bool) → is_running (after k m).stand ≡ b → is_running (after k m).stand ≡ true
+    ran true is = is
+    ran false is =
+        let same = ap (λ (l : Machine). is_running l.stand) (cycle-stopped (after k m) is) in
+        let bad : true ≡ false = sym e ∙ same ∙ is in
+        cc
+
 -- the first cycle that prints
 pub output_in-first : (m : Machine) (k : ℕ) → is_running (after k m).stand ≡ true → output_in k m ≡ [] → output_in (suc k) m ≡ (cycle (after k m)).shared.output
 output_in-first m k running none =
@@ -140,3 +159,16 @@ output_in-none m zero e = let z : zero - 1 ≡ zero = omega arith in ap (λ i. o
 output_in-none m (suc k) e =
     let p : suc k - 1 ≡ k = omega arith in
     ap (λ i. output_in i m) p ∙ none_before (is_running (after k m).stand) (output_in k m) (after (suc k) m).shared.output e
+
+-- the cycles of a run of k cycles are the first ones of a longer run, and so is what they print
+pub output_in-longer : (m : Machine) (k n : ℕ) → k ≤ n → output_in n m ≡ output_in k m ++ output_in (n - k) (after k m)
+output_in-longer m k n le = let e : n ≡ k + (n - k) = omega (arith, le) in ap (λ i. output_in i m) e ∙ output_in-sum m k (n - k)
+
+-- what they commit
+pub committed_in-stopped : (m : Machine) (k n : ℕ) → k ≤ n → is_running (after k m).stand ≡ false → committed_in n m ≡ committed_in k m
+committed_in-stopped m k n le stopped =
+    stays m (λ i. committed_in i m) (λ i. committed_in i m ++ committed (after (suc i) m) ∷ []) (λ i. refl) k n le stopped
+
+-- one more cycle commits
+pub committed_in-next : (m : Machine) (k : ℕ) → is_running (after k m).stand ≡ true → committed_in (suc k) m ≡ committed_in k m ++ committed (after (suc k) m) ∷ []
+committed_in-next m k running = ap (λ b. cond b (committed_in k m ++ committed (after (suc k) m) ∷ []) (committed_in k m)) running

@@ -5,6 +5,7 @@ use Rattle.fk_num.specs.Word.{Memory}
 use Rattle.fk_image.specs.declared.Image.{Image}
 use Rattle.fk_isa.specs.declared.instruction.Instruction.{Instruction}
 use Rattle.fk_isa.specs.Find.{row}
+use Rattle.fk_machine.specs.Commit.{Commits, commits_of}
 use Rattle.fk_machine.specs.declared.stand.Stand.{Stand}
 use Rattle.fk_machine.specs.declared.stand.Stand.TheVariants.{Running, Finished, Faulted, Trapped}
 use Rattle.fk_machine.specs.Hart.{Hart, Shared, Setting, Effect, Goes, Stops}
@@ -43,10 +44,13 @@ abbrev pub turns : Setting → ℕ → List Hart → Shared → Turns
 turns t number [] s = record { harts = []; shared = s; ran = []; stop = None }
 turns t number (h ∷ hs) s = turn h.ended t number h hs (turns t (suc number) hs) s
 
--- A machine. `shared.output` has the bytes of the last cycle.
+-- A machine. `commits` tells what its code commits. `ran` has the address that each hart ran in the
+-- last cycle, and `shared.output` has the bytes of that cycle.
 pub record Machine : Type 0 where
   pub code : List (Option Instruction)
+  pub commits : Commits
   pub harts : List Hart
+  pub ran : List (Option ℕ)
   pub shared : Shared
   pub inputs : ℕ
   pub begun : ℕ
@@ -81,7 +85,9 @@ abbrev pub after_turns : Machine → Turns → Machine
 after_turns m t =
     record {
       code = m.code;
+      commits = m.commits;
       harts = t.harts;
+      ran = t.ran;
       shared = t.shared;
       inputs = m.inputs;
       begun = m.begun + 1;
@@ -103,7 +109,9 @@ abbrev pub machine_opening : Image → List ℕ → ℕ → Machine
 machine_opening image input p =
     record {
       code = map row image.code.items;
+      commits = commits_of image.commits.items;
       harts = replicate p first_hart;
+      ran = replicate p None;
       shared = record {
         words = first_words image input;
         control = λ i. 0;

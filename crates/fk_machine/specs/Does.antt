@@ -2,13 +2,14 @@
 use Rattle.std.specs.Prelude.{◌≡◌, ℕ, ◌+◌, ◌-◌, ◌≤◌, List, Option, Some, None, length, slice_index}
 use Rattle.std.specs.Prelude.{vec_len, vec_capacity}
 use Rattle.fk_isa.specs.declared.hart.Hart.{Hart as HartState}
+use Rattle.fk_machine.specs.declared.hart.TrackedHart.{TrackedHart}
 use Rattle.fk_machine.specs.declared.bus.HartBus.{HartBus}
 use Rattle.fk_machine.specs.declared.shared.SharedState.{SharedState}
 use Rattle.fk_machine.specs.declared.stand.Stand.{Stand}
 use Rattle.fk_machine.specs.Hart.{Hart, Shared, Effect, Goes, Stops}
 use Rattle.fk_machine.specs.Reach.{Reach}
 use Rattle.fk_machine.specs.Cycle.{Turns}
-use Rattle.fk_machine.specs.View.{hart_of, harts_of, local_of, shared_of, setting_of}
+use Rattle.fk_machine.specs.View.{hart_of, harts_of, local_of, ran_of, shared_of, setting_of}
 
 -- How many more bytes can be printed without taking memory.
 abbrev pub room_of : SharedState → ℕ
@@ -54,17 +55,19 @@ Does instruction h local s stop h' local' s' =
     Gives (instruction hart (shared_of s)) hart (shared_of s) stop
     (hart_of h' (slice_index local')) (shared_of s')
 
--- The turns leave these harts and this shared state, and end with this status, if any.
-pub record TurnsGive (t : Turns) (stop : Option Stand) (harts : List Hart)
+-- The turns leave these harts, which ran these addresses, and this shared state, and end with this
+-- status, if any.
+pub record TurnsGive (t : Turns) (stop : Option Stand) (harts : List Hart) (ran : List (Option ℕ))
     (shared : Shared) : Type 0 where
   pub harts_are : t.harts ≡ harts
+  pub ran_are : t.ran ≡ ran
   pub shared_is : t.shared ≡ shared
   pub stop_is : t.stop ≡ stop
 
 -- The turns of all harts, as what they do to the harts with their local memories and to the shared
 -- state.
-abbrev pub TakesTurns : (List Hart → Shared → Turns) → List HartState → List ℕ → SharedState
-    → Option Stand → List HartState → List ℕ → SharedState → Type 0
+abbrev pub TakesTurns : (List Hart → Shared → Turns) → List TrackedHart → List ℕ → SharedState
+    → Option Stand → List TrackedHart → List ℕ → SharedState → Type 0
 TakesTurns turns hs locals s stop hs' locals' s' =
     TurnsGive (turns (harts_of 0 hs (local_of locals)) (shared_of s)) stop
-    (harts_of 0 hs' (local_of locals')) (shared_of s')
+    (harts_of 0 hs' (local_of locals')) (ran_of hs') (shared_of s')

@@ -2,6 +2,7 @@ pub mod Place
 pub mod Hart
 pub mod Reach
 pub mod Step
+pub mod Commit
 pub mod Cycle
 pub mod Run
 pub mod Early

@@ -3,6 +3,7 @@ use Rattle.std.specs.Prelude.{ℕ, zero, suc, ◌==◌, List, [], ◌∷◌, ◌
 use Rattle.std.specs.Prelude.{if◌then◌else◌, map}
 use Rattle.fk_image.specs.declared.Image.{Image}
 use Rattle.fk_image.specs.Limits.{count_of_word}
+use Rattle.fk_machine.specs.Commit.{commit_at}
 use Rattle.fk_machine.specs.Cycle.{Machine, turns_of, is_running, cycle, machine_opening}
 
 -- The machine after at most n cycles.
@@ -29,6 +30,18 @@ output_in zero m = []
 output_in (suc n) m =
     cond (is_running (after n m).stand)
     (output_in n m ++ (after (suc n) m).shared.output) (output_in n m)
+
+-- What each hart committed in the last cycle: a count of operations and an event. Before the first
+-- cycle nothing was committed.
+abbrev pub committed : Machine → List (Option (ℕ × ℕ))
+committed m = map (commit_at m.commits) m.ran
+
+-- What the harts commit in n cycles more: one list for each cycle that was begun.
+abbrev pub committed_in : ℕ → Machine → List (List (Option (ℕ × ℕ)))
+committed_in zero m = []
+committed_in (suc n) m =
+    cond (is_running (after n m).stand)
+    (committed_in n m ++ committed (after (suc n) m) ∷ []) (committed_in n m)
 
 -- The count of an address in the commit table, 0 if it isn't there.
 abbrev pub count_in : List (ℕ × ℕ) → ℕ → ℕ

@@ -23,6 +23,7 @@
 #![tactic(auto)]
 
 mod bus;
+mod commits;
 mod hart;
 mod machine;
 pub mod place;

@@ -3,21 +3,22 @@
 ghost use Rattle.std.specs.Prelude.{◌≡◌, ◌+◌, ◌*◌, ◌≤◌, vec_len, vec_capacity};
 ghost use Rattle.fk_num.specs.Limits.{most_data_words};
 
-use crate::hart::first_harts;
+use crate::hart::{TrackedHart, first_harts};
 use crate::setting::Setting;
 use crate::shared::SharedState;
 use crate::stand::Stand;
 use crate::turns::{LOCAL_STRIDE, stand_after, take_turns};
 use crate::zeros::zeros;
 use fk_image::Image;
-use fk_isa::Hart;
+use fk_isa::{Hart, Instruction};
+use fk_ports::{Failed, Sink, give_all};
 use std::alloc::{AllocError, Global};
 
 /// A machine that runs an image: its harts, what they share, and its status.
 #[derive(Drop)]
 pub struct Machine {
     setting: Setting,
-    harts: Vec<Hart>,
+    harts: Vec<TrackedHart>,
     /// The local memories of all harts, in the order of their numbers.
     locals: Vec<u32>,
     shared: SharedState,
@@ -33,18 +34,26 @@ pub struct Machine {
 
 #[tactic(auto, unfolding(crate::specs::View::machine_of))]
 impl Machine {
-    ghost use Rattle.std.specs.Prelude.{◌-◌, ◌<◌, ◌^◌, ◌++◌, [], length, IfOk, OnOk, OnErr};
+    ghost use Rattle.std.specs.Prelude.{◌-◌, ◌<◌, ◌^◌, ◌/◌, ◌%◌, ◌==◌, [], Some, None, true};
+    ghost use Rattle.std.specs.Prelude.{if◌then◌else◌, length, map, slice_get, slice_index_or};
+    ghost use Rattle.std.specs.Prelude.{IfSome, IfOk, OnOk, OnErr};
+    ghost use Rattle.std.specs.Option.{option_flatten};
+    ghost use Rattle.std.specs.Io.KnownBytes.{append_known};
+    ghost use Rattle.fk_ports.specs.Faults.{HasRisen};
     ghost use Rattle.fk_image.specs.Limits.{IsWithinLimits};
+    ghost use Rattle.fk_isa.specs.Fits.{Fits};
+    ghost use Rattle.fk_isa.specs.Step.{hart_of};
     ghost use Rattle.fk_machine.specs.declared.stand.Stand.TheVariants.{Running};
-    ghost use Rattle.fk_machine.specs.Cycle.{machine_opening, cycle};
-    ghost use Rattle.fk_machine.specs.Run.{after, output_in};
+    ghost use Rattle.fk_machine.specs.Cycle.{machine_opening, cycle, is_running};
+    ghost use Rattle.fk_machine.specs.Run.{after, output_in, committed};
     ghost use Rattle.fk_machine.specs.Early.{StoppedEarly};
-    ghost use Rattle.fk_machine.specs.View.{machine_of};
+    ghost use Rattle.fk_machine.specs.Step.{state_of};
+    ghost use Rattle.fk_machine.specs.View.{code_of, machine_of};
 
     /// A machine with `harts` harts before its first cycle. Shared data begins with the globals of
     /// the image, then the input numbers, then zeros.
     ///
-    /// It takes all the memory that cycles need: 8 MiB for what is shared and 128 KiB for each
+    /// It takes all the memory that a run needs: 8 MiB for what is shared and 128 KiB for each
     /// hart, besides its code. If there isn't enough memory, it fails with [`AllocError`].
     pub fn new(
         alloc: Global,
@@ -57,9 +66,12 @@ impl Machine {
         requires few_harts { harts ≤ 1024 }
         requires few_inputs { length input.now ≤ 65536 }
         requires room { vec_len image.now.globals + length input.now ≤ most_data_words }
-        ensures { IfOk result (λ m. machine_of m ≡ machine_opening image.now input.now harts) }
+        ensures machine { IfOk result
+            (λ m. machine_of m ≡ machine_opening image.now input.now harts) }
+        ensures code { IfOk result (λ m. code_of m ≡ image.now.code.items) }
     {
-        let setting = Setting::new(alloc, &image.code, harts, input.len() as u32)?;
+        let inputs = input.len() as u32;
+        let setting = Setting::new(alloc, &image.code, &image.commits, harts, inputs)?;
         let shared = SharedState::new(alloc, &image.globals, input, harts)?;
         let locals = zeros(alloc, LOCAL_STRIDE as usize * harts as usize)?;
         Ok(Machine {
@@ -79,6 +91,7 @@ impl Machine {
         ensures cycle { machine_of self.new ≡ cycle (machine_of self.old) }
         ensures stand { result ≡ (machine_of self.new).stand }
         ensures count { (machine_of self.new).begun ≤ (machine_of self.old).begun + 1 }
+        ensures code { code_of self.new ≡ code_of self.old }
     {
         if self.stand != Stand::Running {
             return self.stand;
@@ -94,6 +107,7 @@ impl Machine {
         requires count { (machine_of self.old).begun < 2 ^ 32 - 1 }
         ensures cycle { machine_of self.new ≡ cycle (machine_of self.old) }
         ensures stand { result ≡ self.new.stand }
+        ensures code { code_of self.new ≡ code_of self.old }
     {
         let mut stop = None;
         take_turns(
@@ -120,8 +134,10 @@ impl Machine {
         ensures machine { machine_of self.new ≡ after result (machine_of self.old) }
         ensures output { output_in result (machine_of self.old) ≡ self.new.shared.output.items }
         ensures quiet { output_in (result - 1) (machine_of self.old) ≡ [] }
+        ensures before { is_running (after (result - 1) (machine_of self.old)).stand ≡ true }
         ensures some { 1 ≤ result }
         ensures few { result ≤ cycles }
+        ensures code { code_of self.new ≡ code_of self.old }
     {
         self.shared.output.clear();
         for done in 0..cycles {
@@ -133,26 +149,45 @@ impl Machine {
         cycles
     }
 
-    /// Runs `cycles` cycles, or fewer if the machine ends before, and appends what each prints to
-    /// `output`, in order. It takes memory only for `output`.
-    ///
-    /// If there isn't enough for what a cycle has printed, it fails with [`AllocError`]. That cycle
-    /// is then the last that the machine has run, and only its bytes were not appended.
-    /// [`Machine::output`] gives them.
-    pub fn run(&mut self, cycles: u32, output: &mut Vec<u8>) -> Result<(), AllocError>
+    // Runs `cycles` cycles, or fewer if the machine ends before, and gives what each prints, in
+    // order.
+    fn run_for<K: Sink>(&mut self, cycles: u32, out: &mut K) -> Result<(), Failed>
         requires { (machine_of self.old).begun + cycles < 2 ^ 32 }
         ensures machine { OnOk result (machine_of self.new ≡ after cycles (machine_of self.old)) }
-        ensures output { OnOk result
-            (output.new.items ≡ output.old.items ++ output_in cycles (machine_of self.old)) }
-        ensures early { OnErr result (StoppedEarly cycles (machine_of self.old) output.old.items
-            (machine_of self.new) output.new.items) }
+        ensures output { OnOk result (K.taken out.new
+            ≡ append_known (K.taken out.old) (output_in cycles (machine_of self.old))) }
+        ensures early { OnErr result (StoppedEarly cycles (machine_of self.old)
+            (machine_of self.new) (K.taken out.old) (K.taken out.new)) }
+        ensures fault { OnErr result (HasRisen (K.faults out.old) (K.faults out.new)) }
+        ensures steady { OnOk result (K.faults out.new ≡ K.faults out.old) }
+        ensures code { code_of self.new ≡ code_of self.old }
     {
         let mut left = cycles;
         while left > 0 && self.stand == Stand::Running {
             left -= self.run_quietly(left);
-            output.extend_from_slice(&self.shared.output)?;
+            give_all(out, &self.shared.output)?;
         }
         Ok(())
+    }
+
+    /// Runs until the machine ends or has begun `bound` cycles, and gives its status. After each
+    /// cycle it gives what that cycle has printed to `out`. It takes no memory.
+    ///
+    /// If `out` fails, the cycle whose bytes were being given is the last that the machine has run.
+    pub fn run_to<K: Sink>(&mut self, bound: u32, out: &mut K) -> Result<Stand, Failed>
+        ensures machine { OnOk result (machine_of self.new
+            ≡ after (bound - (machine_of self.old).begun) (machine_of self.old)) }
+        ensures stand { IfOk result (λ stand. stand ≡ (machine_of self.new).stand) }
+        ensures output { OnOk result (K.taken out.new ≡ append_known (K.taken out.old)
+            (output_in (bound - (machine_of self.old).begun) (machine_of self.old))) }
+        ensures early { OnErr result (StoppedEarly (bound - (machine_of self.old).begun)
+            (machine_of self.old) (machine_of self.new) (K.taken out.old) (K.taken out.new)) }
+        ensures fault { OnErr result (HasRisen (K.faults out.old) (K.faults out.new)) }
+        ensures steady { OnOk result (K.faults out.new ≡ K.faults out.old) }
+        ensures code { code_of self.new ≡ code_of self.old }
+    {
+        self.run_for(bound.saturating_sub(self.setting.finished), out)?;
+        Ok(self.stand)
     }
 
     /// The bytes printed in the last cycle, at most 12,288. Before the first cycle there are none.
@@ -170,6 +205,29 @@ impl Machine {
         self.setting.finished
     }
 
+    /// The number of harts.
+    pub fn harts(&self) -> u32
+        ensures harts { length (machine_of self.now).harts ≡ result }
+        ensures committed { length (committed (machine_of self.now)) ≡ result }
+        ensures some { 1 ≤ result }
+        ensures few { result ≤ 1024 }
+    {
+        self.setting.harts
+    }
+
+    /// What the hart with this number committed in the last cycle: the count of operations, and the
+    /// event. None if it committed nothing, or if there is no such hart.
+    pub fn committed(&self, hart: u32) -> Option<(u32, u32)>
+        ensures { result ≡ slice_index_or (committed (machine_of self.now)) hart None }
+    {
+        let index = hart as usize;
+        if index < self.harts.len() {
+            self.setting.commit_at(self.harts[index].ran?)
+        } else {
+            None
+        }
+    }
+
     /// The status of the machine.
     pub fn stand(&self) -> Stand
         ensures { result ≡ (machine_of self.now).stand }
@@ -183,5 +241,39 @@ impl Machine {
         ensures { result ≡ (machine_of self.now).shared.words index }
     {
         self.shared.words[index as usize]
+    }
+
+    /// The hart with this number.
+    #[tactic(auto, unfolding(crate::specs::View::machine_of), using(crate::proofs::Harts::harts_length))]
+    pub fn hart(&self, number: u32) -> &Hart
+        requires { number < length (machine_of self.now).harts }
+        ensures { slice_get (map state_of (machine_of self.now).harts) number
+            ≡ Some (hart_of result.now) }
+    {
+        &self.harts[number as usize].state
+    }
+
+    /// The word of the code at an address. There is none if the address is no multiple of 4, or is
+    /// past the code.
+    pub fn code(&self, address: u32) -> Option<u32>
+        ensures { result ≡ (if address % 4 == 0
+            then slice_get (code_of self.now) (address / 4) else None) }
+    {
+        if address % 4 != 0 {
+            return None;
+        }
+        self.setting.words.get((address / 4) as usize).copied()
+    }
+
+    /// The instruction that a hart with this pc does next. There is none if it traps because the pc
+    /// is past the code, or because the word there is no instruction.
+    #[inline(always)]
+    #[tactic(auto, unfolding(crate::specs::View::machine_of), using(crate::proofs::Rows::row_there))]
+    pub fn instruction(&self, pc: u32) -> Option<Instruction>
+        ensures instruction { result
+            ≡ option_flatten (slice_get (machine_of self.now).code (pc / 4)) }
+        ensures fits { IfSome result Fits }
+    {
+        self.setting.code.get((pc / 4) as usize)?.row()
     }
 }

@@ -68,7 +68,7 @@ fn index_in(address: u32, start: u32, words: u32) -> Option<u32>
 
 /// The place that an address names.
 #[tactic(auto, unfolding(crate::specs::Place::place_of))]
-pub(crate) fn place_at(address: u32) -> Location
+pub fn place_at(address: u32) -> Location
     ensures place { result ≡ place_of address }
     ensures within { IsInMachine result }
 {

@@ -14,6 +14,9 @@ use std::alloc::{AllocError, Global};
 /// The most bytes that an instruction prints: a sign, ten digits and a newline.
 pub const LINE_BYTES: usize = 12;
 
+/// The most bytes that a cycle prints: a line for each of 1,024 harts.
+pub const OUTPUT_BYTES: usize = 12_288;
+
 /// Shared data, shared control, the bytes printed in this cycle, and reservations.
 #[derive(Drop)]
 pub struct SharedState {
@@ -39,7 +42,7 @@ impl SharedState {
     ghost use Rattle.fk_machine.specs.Does.{room_of, PrintsUpTo};
 
     /// Shared data with the globals and then the input numbers, control of zeros, and room for what
-    /// `harts` harts print in a cycle. Fails if there isn't enough memory.
+    /// is printed in a cycle. Fails if there isn't enough memory.
     pub fn new(
         alloc: Global,
         globals: &[u32],
@@ -51,13 +54,13 @@ impl SharedState {
             slice_index s.words.items ≡ slice_index (globals.now ++ input.now)) }
         ensures control { IfOk result (λ s. slice_index s.control.items ≡ λ i. 0) }
         ensures output { IfOk result (λ s. s.output.items ≡ []) }
-        ensures room { IfOk result (λ s. LINE_BYTES * harts ≤ room_of s) }
+        ensures room { IfOk result (λ s. OUTPUT_BYTES ≤ room_of s) }
         ensures harts { IfOk result (λ s. vec_len s.reserved ≡ harts) }
         ensures reserved { IfOk result (λ s. (shared_of s).reserved ≡ λ number. None) }
     {
         let words = first_words(alloc, globals, input)?;
         let control = zeros(alloc, CONTROL_WORDS as usize)?;
-        let output = Vec::with_capacity(alloc, LINE_BYTES * harts as usize)?;
+        let output = Vec::with_capacity(alloc, OUTPUT_BYTES)?;
         let reserved = vec![in alloc; None; harts as usize]?;
         Ok(SharedState {
             words,

@@ -11,13 +11,13 @@ const ONE_WORD: [u8; 28] = [
 ];
 
 /// Two words of code, and a commit at the second.
-const ONE_COMMIT: [u8; 40] = [
+pub const ONE_COMMIT: [u8; 40] = [
     0x46, 0x4b, 0x39, 0x35, 1, 0, 0, 0, 2, 0, 0, 0, 0, 0, 0, 0, 0, 0, 0, 0, 1, 0, 0, 0, 0xb7, 0x02,
     0x00, 0x30, 0x23, 0xa6, 0x02, 0x00, 4, 0, 0, 0, 1, 0, 0, 0,
 ];
 
 /// One entry in each of the tables, with bytes that show their order.
-const ONE_OF_EACH: [u8; 52] = [
+pub const ONE_OF_EACH: [u8; 52] = [
     0x46, 0x4b, 0x39, 0x35, 1, 0, 0, 0, 1, 0, 0, 0, 1, 0, 0, 0, 1, 0, 0, 0, 1, 0, 0, 0, 1, 2, 3, 4,
     5, 6, 7, 8, 9, 0, 0, 0, 10, 0, 0, 0, 11, 0, 0, 0, 0, 0, 0, 0, 12, 0, 0, 0,
 ];

@@ -4,6 +4,10 @@
 #[cfg(test)]
 mod asm;
 #[cfg(test)]
+mod audit;
+#[cfg(test)]
+mod elf;
+#[cfg(test)]
 mod image;
 #[cfg(test)]
 mod input;

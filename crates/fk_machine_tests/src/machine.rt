@@ -4,9 +4,12 @@ ghost use Rattle.std.specs.Prelude.{◌≡◌, IfOk};
 ghost use Rattle.fk_machine.specs.View.{machine_of};
 
 use crate::input::repeated;
-use fk_image::Image;
+use fk_image::{Image, read_image};
+use fk_isa::encode;
 use fk_machine::stand::{ACCESS, EBREAK, ECALL, FETCH, MISALIGNED, UNKNOWN};
 use fk_machine::{Machine, Stand};
+use fk_ports::MemSink;
+use fk_trace::run_trace;
 use std::alloc::{AllocError, Global};
 use std::process::Abort;
 
@@ -332,21 +335,35 @@ static CASES: [Case; 17] = [
     HIGHEST,
 ];
 
-// A new machine for a case.
-fn machine_for(rt: &impl Abort, alloc: Global, case: &Case) -> Result<Machine, AllocError>
+// A new machine with this code, these globals and this input.
+pub(crate) fn machine_for(
+    rt: &impl Abort,
+    alloc: Global,
+    code: &[u32],
+    globals: &[u32],
+    input: &[u32],
+    harts: u32,
+) -> Result<Machine, AllocError>
     ensures { IfOk result (λ machine. (machine_of machine).begun ≡ 0) }
 {
-    assert!(rt; 1 <= case.code.len() && case.code.len() <= 1000);
-    assert!(rt; case.globals.len() <= 1000 && case.input.len() <= 1000);
-    assert!(rt; 1 <= case.harts && case.harts <= 1024);
+    assert!(rt; 1 <= code.len() && code.len() <= 1000);
+    assert!(rt; globals.len() <= 1000 && input.len() <= 1000);
+    assert!(rt; 1 <= harts && harts <= 1024);
     let image = Image {
-        code: case.code.to_vec(alloc)?,
-        globals: case.globals.to_vec(alloc)?,
+        code: code.to_vec(alloc)?,
+        globals: globals.to_vec(alloc)?,
         sites: Vec::new(alloc),
         commits: Vec::new(alloc),
     };
-    let machine = Machine::new(alloc, &image, case.input, case.harts)?;
+    let machine = Machine::new(alloc, &image, input, harts)?;
     Ok(machine)
+}
+
+// A new machine for a case.
+fn machine_of_case(rt: &impl Abort, alloc: Global, case: &Case) -> Result<Machine, AllocError>
+    ensures { IfOk result (λ machine. (machine_of machine).begun ≡ 0) }
+{
+    machine_for(rt, alloc, case.code, case.globals, case.input, case.harts)
 }
 
 // The number of texts that the last cycle printed, if it printed nothing else.
@@ -393,48 +410,108 @@ fn stands(machine: &Machine, case: &Case) -> bool {
     cycles && machine.stand() == case.stand && begins_with(machine, case.words)
 }
 
-// Whether one call that runs a new machine appends all that a case prints to these bytes.
-fn appends(
-    alloc: Global,
-    machine: &mut Machine,
-    case: &Case,
-    bytes: &mut Vec<u8>,
-) -> Result<bool, AllocError>
-    requires { (machine_of machine.old).begun ≡ 0 }
-{
-    let mut expected = bytes.clone()?;
-    expected.extend_from_slice(&repeated(alloc, case.text, case.times)?)?;
-    machine.run(case.bound, bytes)?;
-    Ok(bytes.as_slice() == expected.as_slice())
+// Whether one call that runs a new machine gives all that a case prints.
+fn gives(alloc: Global, machine: &mut Machine, case: &Case) -> Result<bool, AllocError> {
+    let expected = repeated(alloc, case.text, case.times)?;
+    let mut out = MemSink::new(alloc, expected.len(), Vec::new(alloc))?;
+    let ran = machine.run_to(case.bound, &mut out).is_ok();
+    Ok(ran && out.bytes() == expected.as_slice())
 }
 
-// Checks that a case has its expected result, both cycle by cycle and in one call. The one call
-// appends to what was printed before.
-fn comes_true(
-    rt: &impl Abort,
-    alloc: Global,
-    case: &Case,
-    bytes: &mut Vec<u8>,
-) -> Result<(), AllocError> {
-    let mut machine = machine_for(rt, alloc, case)?;
+// Checks that a case has its expected result, both cycle by cycle and in one call.
+fn comes_true(rt: &impl Abort, alloc: Global, case: &Case) -> Result<(), AllocError> {
+    let mut machine = machine_of_case(rt, alloc, case)?;
     let times = times_printed(&mut machine, case);
     assert!(rt;
         times == Some(case.times) && stands(&machine, case),
         "{}",
         case.name
     );
-    let mut machine = machine_for(rt, alloc, case)?;
-    let all = appends(alloc, &mut machine, case, bytes)?;
+    let mut machine = machine_of_case(rt, alloc, case)?;
+    let all = gives(alloc, &mut machine, case)?;
     assert!(rt; all && stands(&machine, case), "{} at once", case.name);
     Ok(())
 }
 
 #[test]
 fn images_run_as_they_are_told(rt: HostRuntime) -> Result<(), AllocError> {
-    let alloc = rt.alloc();
-    let mut bytes = Vec::new(alloc);
     for case in &CASES {
-        comes_true(&rt, alloc, case, &mut bytes)?;
+        comes_true(&rt, rt.alloc(), case)?;
     }
+    Ok(())
+}
+
+// Whether a machine has this word of code at this place, and the instruction that it is.
+fn has_word(machine: &Machine, index: usize, word: u32) -> bool {
+    if index >= 1000 {
+        return false;
+    }
+    let address = 4 * index as u32;
+    match machine.instruction(address) {
+        Some(instruction) => machine.code(address) == Some(word) && encode(instruction) == word,
+        None => false,
+    }
+}
+
+// Whether a machine has these words of code, and none beside them.
+fn has_code(machine: &Machine, code: &[u32]) -> bool {
+    for (index, word) in code.iter().enumerate() {
+        if !has_word(machine, index, *word) {
+            return false;
+        }
+    }
+    machine.code(2) == None
+        && machine.code(0xffff_fffc) == None
+        && machine.instruction(0xffff_fffc).is_none()
+}
+
+#[test]
+fn the_code_and_the_harts_are_told(rt: HostRuntime) -> Result<(), AllocError> {
+    let mut machine = machine_of_case(&rt, rt.alloc(), &TWO_PRINT)?;
+    assert!(rt; has_code(&machine, TWO_PRINT.code));
+    machine.cycle();
+    machine.cycle();
+    assert!(rt; machine.harts() == 2);
+    let hart = machine.hart(1);
+    assert!(rt; hart.pc == 8 && hart.word(6) == 1 && !hart.ended);
+    Ok(())
+}
+
+/// An image of `lui t0, 0x30000` and `sw zero, 12(t0)`, which ends the hart. The second commits two
+/// operations and a split.
+const COMMITTING: [u8; 40] = [
+    0x46, 0x4b, 0x39, 0x35, 0x01, 0x00, 0x00, 0x00, 0x02, 0x00, 0x00, 0x00, 0x00, 0x00, 0x00, 0x00,
+    0x00, 0x00, 0x00, 0x00, 0x01, 0x00, 0x00, 0x00, 0xb7, 0x02, 0x00, 0x30, 0x23, 0xa6, 0x02, 0x00,
+    0x04, 0x00, 0x00, 0x00, 0x02, 0x01, 0x00, 0x00,
+];
+
+#[test]
+fn harts_commit_in_the_last_cycle(rt: HostRuntime) -> Result<(), AllocError> {
+    let alloc = rt.alloc();
+    let Ok(image) = read_image(alloc, &COMMITTING) else {
+        return Err(AllocError);
+    };
+    let mut machine = Machine::new(alloc, &image, &[], 2)?;
+    assert!(rt; machine.harts() == 2 && machine.committed(0).is_none());
+    machine.cycle();
+    assert!(rt; machine.committed(0).is_none() && machine.committed(1).is_none());
+    machine.cycle();
+    assert!(rt; machine.committed(0) == Some((2, 1)) && machine.committed(1) == Some((2, 1)));
+    assert!(rt; machine.committed(2).is_none() && machine.stand() == Stand::Finished);
+    Ok(())
+}
+
+const COMMITTING_TRACE: &[u8] = b"fork95 trace 1\nharts 2\nc 2 0-1*2\ng 2 split 0-1\nend 2\n";
+
+#[test]
+fn a_trace_tells_what_harts_commit(rt: HostRuntime) -> Result<(), AllocError> {
+    let alloc = rt.alloc();
+    let Ok(image) = read_image(alloc, &COMMITTING) else {
+        return Err(AllocError);
+    };
+    let mut machine = Machine::new(alloc, &image, &[], 2)?;
+    let mut out = MemSink::new(alloc, 200, Vec::new(alloc))?;
+    assert!(rt; run_trace(&mut machine, 10, &mut out).is_ok());
+    assert!(rt; out.bytes() == COMMITTING_TRACE);
     Ok(())
 }

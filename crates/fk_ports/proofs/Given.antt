@@ -2,7 +2,7 @@
 use Rattle.std.proofs.Common.{◌≡◌, ℕ, ◌-◌, ◌<◌, List, [], ◌∷◌, ◌++◌, Option, Some, None, length, take, drop, arith, refl, sym, ap, ◌∙◌, append_assoc, append-nil, take-append-drop, length-append, length-drop}
 use Rattle.std.proofs.lemmas.List.{take_all}
 use Rattle.std.specs.Io.KnownBytes.{append_known}
-use Rattle.fk_ports.specs.Known.{TakesPrefix}
+use Rattle.fk_ports.specs.Known.{TakesPrefix, IsGiven}
 
 pub append_known-nil : (known : Option (List ℕ)) → append_known known [] ≡ known
 append_known-nil None = refl
@@ -11,12 +11,6 @@ append_known-nil (Some bytes) = ap Some (append-nil bytes)
 pub append_known-append : (known : Option (List ℕ)) (xs ys : List ℕ) → append_known (append_known known xs) ys ≡ append_known known (xs ++ ys)
 append_known-append None xs ys = refl
 append_known-append (Some bytes) xs ys = ap Some (append_assoc bytes xs ys)
-
--- of the piece, the front was taken and the rest is still to be given
-pub record IsGiven (piece rest : List ℕ) (before now : Option (List ℕ)) : Type 0 where
-  pub front : List ℕ
-  pub whole : piece ≡ front ++ rest
-  pub taken : now ≡ append_known before front
 
 pub none_given : (piece : List ℕ) (before : Option (List ℕ)) → IsGiven piece piece before before
 none_given piece before = record { front = []; whole = refl; taken = sym (append_known-nil before) }
@@ -71,4 +65,23 @@ TakesPrefix-after before between now bytes more all took = record {
   rest = took.rest;
   parts = ap (λ l. bytes ++ l) took.parts ∙ sym (append_assoc bytes took.front took.rest);
   taken = took.taken ∙ ap (λ k. append_known k took.front) all ∙ append_known-append before bytes took.front;
+}
+
+-- one more piece of the bytes was given, or a part of it
+pub piece_given : (bytes piece rest : List ℕ) (before now later : Option (List ℕ)) → IsGiven bytes (piece ++ rest) before now → later ≡ append_known now piece → IsGiven bytes rest before later
+piece_given bytes piece rest before now later given step = record {
+  front = given.front ++ piece;
+  whole = given.whole ∙ sym (append_assoc given.front piece rest);
+  taken = step ∙ ap (λ known. append_known known piece) given.taken ∙ append_known-append before given.front piece;
+}
+
+pub part_of_given : (bytes piece rest : List ℕ) (before now later : Option (List ℕ)) → IsGiven bytes (piece ++ rest) before now → TakesPrefix now later piece → TakesPrefix before later bytes
+part_of_given bytes piece rest before now later given part = record {
+  front = given.front ++ part.front;
+  rest = part.rest ++ rest;
+  parts = given.whole
+      ∙ ap (λ l. given.front ++ (l ++ rest)) part.parts
+      ∙ ap (λ l. given.front ++ l) (append_assoc part.front part.rest rest)
+      ∙ sym (append_assoc given.front part.front (part.rest ++ rest));
+  taken = part.taken ∙ ap (λ known. append_known known part.front) given.taken ∙ append_known-append before given.front part.front;
 }

@@ -2,3 +2,4 @@ pub mod Given
 pub mod Risen
 pub mod Stored
 pub mod Taken
+pub mod Pieces

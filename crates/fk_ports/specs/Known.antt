@@ -23,3 +23,10 @@ pub record MovesFirst (most : ℕ) (before now : Option (List ℕ)) (old new : L
   pub appended : new ≡ old ++ bytes
   pub left : before ≡ prepend_known bytes now
   pub first : IfSome before (λ left. bytes ≡ take most left)
+
+-- A sink that had taken `before` took the front of these bytes, and has now taken `now`. The rest is
+-- still to be given.
+pub record IsGiven (bytes rest : List ℕ) (before now : Option (List ℕ)) : Type 0 where
+  pub front : List ℕ
+  pub whole : bytes ≡ front ++ rest
+  pub taken : now ≡ append_known before front

@@ -19,7 +19,7 @@ pub use host::{HostSink, HostSource, HostStore};
 pub use mem_sink::MemSink;
 pub use mem_source::MemSource;
 pub use mem_store::MemStore;
-pub use sink::{Sink, give_all};
+pub use sink::{Sink, give_all, give_pieces};
 pub use source::{Source, take_all};
 pub use store::Store;
 pub use sure::{SureSink, SureSource, SureStore};

@@ -1,6 +1,6 @@
 //! Sinks of bytes.
 ghost use Rattle.std.specs.Prelude.{◌≡◌, ◌<◌, ◌≤◌, ℕ, List, [], Option, IfOk, IsOk, OnErr, OnOk};
-ghost use Rattle.std.specs.Prelude.{length, take};
+ghost use Rattle.std.specs.Prelude.{flat_map, length, take};
 ghost use Rattle.std.specs.Io.KnownBytes.{append_known};
 ghost use Rattle.fk_ports.specs.Faults.{HasRisen};
 ghost use Rattle.fk_ports.specs.Known.{TakesPrefix};
@@ -50,6 +50,25 @@ pub fn give_all<K: Sink>(sink: &mut K, bytes: &[u8]) -> Result<(), Failed>
     while !rest.is_empty() {
         let count = sink.give(rest)?;
         rest = &rest[count..];
+    }
+    Ok(())
+}
+
+/// Gives pieces to a sink, one after another. If it fails, the sink took some bytes from the front
+/// of what they are together.
+///
+/// It takes no memory. An empty piece makes no call.
+pub fn give_pieces<K: Sink>(sink: &mut K, pieces: &[&[u8]]) -> Result<(), Failed>
+    ensures all { OnOk result (K.taken sink.new ≡ append_known (K.taken sink.old)
+        (flat_map (λ piece. piece.now) pieces.now)) }
+    ensures prefix { OnErr result (TakesPrefix (K.taken sink.old) (K.taken sink.new)
+        (flat_map (λ piece. piece.now) pieces.now)) }
+
+    ensures fault { OnErr result (HasRisen (K.faults sink.old) (K.faults sink.new)) }
+    ensures steady { OnOk result (K.faults sink.new ≡ K.faults sink.old) }
+{
+    for piece in pieces {
+        give_all(sink, *piece)?;
     }
     Ok(())
 }

@@ -117,8 +117,8 @@ module _ (core : List CoreOp) (image : Image) (places : Places) (nestings : Nest
     pub node : StandsInNode places nestings setting (Some setting.processors) p begins.hart
 
   module _ (cycles : Cycles) where
-    -- The block of a local operation or a request, for a member of a node. Where it gets the address
-    -- of a word in the frame of a part, that frame has to be found.
+    -- The block of a local operation or a request, for a member of a node. Where it gets the
+    -- address of a word in the frame of a part, that frame has to be found.
     abbrev pub BlockDoesInNode : (i : ℕ) → CoreOp → Operation → Type 0
     BlockDoesInNode i op operation =
         (setting : Setting) (t : MachineSetting) (runs : Option ℕ) (first : ℕ)

@@ -8,7 +8,7 @@ use Rattle.fk_space.specs.Space.{Space}
 use Rattle.fk_tree.specs.declared.node.Kind.{Kind}
 use Rattle.fk_tree.specs.declared.node.Kind.TheVariants.{Lockstep, Waiting, Asynchronous}
 use Rattle.fk_tree.specs.Tree as t
-use Rattle.fk_tree.specs.Tree.{Node, Tree, members_of, kind_of, is_member, is_from}
+use Rattle.fk_tree.specs.Tree.{Node, Tree, members_of, is_member, is_from}
 use Rattle.fk_tree.specs.Sound.{Has, IsAt, awaits, IsSound}
 use Rattle.fk_tree.proofs.Shapes.{from_within}
 use Rattle.fk_meaning_operation.specs.declared.kinds.Joint.{Joint}

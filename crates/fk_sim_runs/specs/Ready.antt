@@ -1,4 +1,4 @@
--- The control words of the group to come, in runs of lists with one group at a time: they are 0
+-- The control words of the group to come, in runs of lists whose groups split: they are 0
 -- when it begins.
 use Rattle.std.specs.Prelude.{◌≡◌, ℕ, ◌^◌, ◌<◌, List, length, true}
 use Rattle.fk_num.specs.Word.{Memory}

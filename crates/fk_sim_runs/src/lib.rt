@@ -1,4 +1,4 @@
-//! Machines follow the core runs of lists with one group at a time: which operation each processor
+//! Machines follow the core runs of lists whose groups split: which operation each processor
 //! and each group does next, which steps a round takes, and so, from the opening on and in the pace
 //! of lawful schedules, whole runs.
 //!

@@ -10,22 +10,23 @@ use Rattle.fk_ports.specs.Known.{GivesAtMost, MovesFirst}
 use Rattle.fk_image.specs.declared.Image.{Image}
 use Rattle.fk_image.specs.Spelling.{IsImageOf}
 use Rattle.fk_image.proofs.Same.{one_image}
+use Rattle.fk_elf.specs.Files.{IsElfOf}
 use Rattle.fk_top_input.specs.declared.fault.InputFault.{InputFault}
 use Rattle.fk_top_input.specs.Input.{input_of}
 use Rattle.fk_top_words.specs.Arguments.{Text}
-use Rattle.fk_top_words.specs.Command.{Command, Run, Build, Exec, ListCode, Reads}
+use Rattle.fk_top_words.specs.Command.{Command, Run, Build, Exec, ListCode, Elf, Unelf, Audit, Trace}
 use Rattle.fk_top_words.proofs.OneCommand.{one_command}
 use Rattle.fk_layout_globals.specs.Rows.{Row}
 use Rattle.fk_compile_text.specs.Text.{IsChecked, HasGlobal}
 use Rattle.fk_compile.specs.Faithful.{IsFaithful, words_by}
 use Rattle.fk_top.specs.declared.status.Status.{Status}
-use Rattle.fk_top.specs.declared.status.Status.TheVariants.{Done, Refused, Usage, ReadFault, WriteFault, Memory, SourceFault, CycleBound, Trap, ImageRefused, InputRefused}
-use Rattle.fk_top.specs.Words.{Runs, IsBuild, file_of, most_bytes, most_input}
-use Rattle.fk_top.specs.Outcome.{Outcome, EndsOn, ComesTo, RefusesSource, RefusesImage, LacksGlobal, IsShown, most_numbers}
-use Rattle.fk_top.specs.Refused.{IsRefusedBy, IsNoImageAs}
-use Rattle.fk_top.specs.Call.{Call, Request, Ends, IsUnread, IsFileUnread, IsInputUnread, IsCut, IsOutOfMemory, HasEnded, HasCause, IsInOrder, IsReadable, IsAccepted, IsInputBeside, IsOfStand, IsOfAccepted, IsOfUnreadable, IsOfUnaccepted, IsText, IsImage, Puts, AreCut}
+use Rattle.fk_top.specs.declared.status.Status.TheVariants.{Done, Refused, Usage, ReadFault, WriteFault, Memory, SourceFault, CycleBound, Trap, ImageRefused, InputRefused, ElfRefused}
+use Rattle.fk_top.specs.Words.{Runs, Puts, IsPut, file_of, most_bytes, most_input}
+use Rattle.fk_top.specs.Outcome.{Outcome, Writing, Prints, Traces, EndsOn, EndsAudit, ComesTo, RefusesSource, RefusesImage, RefusesElf, LacksGlobal, IsShown, most_numbers}
+use Rattle.fk_top.specs.Refused.{IsRefusedBy, IsNoElfAs, IsNoImageAs}
+use Rattle.fk_top.specs.Call.{Call, Request, Ends, IsUnread, IsFileUnread, IsInputUnread, IsCut, IsOutOfMemory, HasEnded, HasCause, IsInOrder, IsReadable, IsAccepted, IsInputBeside, IsOfStand, IsOfAccepted, IsOfUnreadable, IsOfUnaccepted, IsText, IsImage, IsElf, AreCut}
 use Rattle.fk_top.proofs.Lost.{no_more, moved, few_input}
-use Rattle.fk_top.proofs.Readable.{whole, same_words, variable_there, text_accepted, image_accepted, image_short}
+use Rattle.fk_top.proofs.Readable.{whole, same_words, variable_there, text_accepted, image_accepted, image_short, elf_accepted, elf_short}
 
 -- ---- the read
 
@@ -59,6 +60,10 @@ taken (Run f p n s) text = take 1048577 text
 taken (Build f i) text = []
 taken (Exec f p n) text = take 1048577 text
 taken (ListCode f) text = []
+taken (Elf i f) text = []
+taken (Unelf f i) text = []
+taken (Audit f p n) text = take 1048577 text
+taken (Trace f p n) text = take 1048577 text
 
 no_bytes : (bytes : List ℕ) → length bytes ≤ 0 → bytes ≡ []
 no_bytes [] le = refl
@@ -73,6 +78,10 @@ taken_is request (Run f p n s) text got told moves = first_of_told _ _ text got 
 taken_is request (Build f i) text got told moves = moves.appended ∙ no_bytes moves.bytes moves.few
 taken_is request (Exec f p n) text got told moves = first_of_told _ _ text got 1048577 (told tt) moves
 taken_is request (ListCode f) text got told moves = moves.appended ∙ no_bytes moves.bytes moves.few
+taken_is request (Elf i f) text got told moves = moves.appended ∙ no_bytes moves.bytes moves.few
+taken_is request (Unelf f i) text got told moves = moves.appended ∙ no_bytes moves.bytes moves.few
+taken_is request (Audit f p n) text got told moves = first_of_told _ _ text got 1048577 (told tt) moves
+taken_is request (Trace f p n) text got told moves = first_of_told _ _ text got 1048577 (told tt) moves
 
 -- what a command comes to over the first bytes of its file and of the input
 abbrev pub ComesToFirst : Command → List ℕ → List ℕ → Outcome → Type 0
@@ -95,32 +104,36 @@ come call command bytes text outcome order (inr (inr read)) =
 nothing_put : (outcome other : Outcome) → outcome ≡ other → other.put ≡ None → IsSome outcome.put → ⊥
 nothing_put outcome other is none some = let e = ap (λ (o : Outcome). o.put) is ∙ none in cc
 
--- only a build puts
-no_put_run : (image : Image) (text : List ℕ) (p n : ℕ) (shown : Option Row) (outcome : Outcome) → EndsOn image text p n shown outcome → IsSome outcome.put → ⊥
-no_put_run image text p n shown outcome (inl r) some = nothing_put outcome _ r.is refl some
-no_put_run image text p n shown outcome (inr r) some = nothing_put outcome _ r.is refl some
+-- only some commands put
+no_put_run : (image : Image) (text : List ℕ) (p n : ℕ) (writing : Writing) (outcome : Outcome) → EndsOn image text p n writing outcome → IsSome outcome.put → ⊥
+no_put_run image text p n writing outcome (inl r) some = nothing_put outcome _ r.is refl some
+no_put_run image text p n writing outcome (inr r) some = nothing_put outcome _ r.is refl some
+
+no_put_audit : (image : Image) (text : List ℕ) (p n : ℕ) (outcome : Outcome) → EndsAudit image text p n outcome → IsSome outcome.put → ⊥
+no_put_audit image text p n outcome (inl r) some = nothing_put outcome _ r.is refl some
+no_put_audit image text p n outcome (inr r) some = nothing_put outcome _ r.is refl some
 
 put_by : (command : Command) (bytes text : List ℕ) (outcome : Outcome) → ComesTo command bytes text outcome → IsSome outcome.put → Puts command
 put_by (Run f p n s) bytes text outcome (inl r) some = nothing_put outcome _ r.is refl some
 put_by (Run f p n s) bytes text outcome (inr (inl r)) some = nothing_put outcome _ r.is refl some
-put_by (Run f p n s) bytes text outcome (inr (inr r)) some = no_put_run r.image text p n r.shown outcome r.ends some
+put_by (Run f p n s) bytes text outcome (inr (inr r)) some = no_put_run r.image text p n (Prints r.shown) outcome r.ends some
 put_by (Build f i) bytes text outcome comes some = tt
 put_by (Exec f p n) bytes text outcome (inl r) some = nothing_put outcome _ r.is refl some
-put_by (Exec f p n) bytes text outcome (inr r) some = no_put_run r.image text p n None outcome r.ends some
+put_by (Exec f p n) bytes text outcome (inr r) some = no_put_run r.image text p n (Prints None) outcome r.ends some
 put_by (ListCode f) bytes text outcome (inl r) some = nothing_put outcome _ r.is refl some
 put_by (ListCode f) bytes text outcome (inr r) some = nothing_put outcome _ r.is refl some
+put_by (Elf i f) bytes text outcome comes some = tt
+put_by (Unelf f i) bytes text outcome comes some = tt
+put_by (Audit f p n) bytes text outcome (inl r) some = nothing_put outcome _ r.is refl some
+put_by (Audit f p n) bytes text outcome (inr r) some = no_put_audit r.image text p n outcome r.ends some
+put_by (Trace f p n) bytes text outcome (inl r) some = nothing_put outcome _ r.is refl some
+put_by (Trace f p n) bytes text outcome (inr r) some = no_put_run r.image text p n Traces outcome r.ends some
 
--- a call that puts is a build
-build_by : (words : List (List ℕ)) (command : Command) → Reads words command → Puts command → IsBuild words
-build_by words (Run f p n s) reads puts = absurd puts
-build_by words (Build f i) reads puts = (f, i, reads)
-build_by words (Exec f p n) reads puts = absurd puts
-build_by words (ListCode f) reads puts = absurd puts
-
-pub puts_by : (request : Request) (outcome : Outcome) → Ends request outcome → IsSome outcome.put → IsBuild request.words
+-- the words of a call that puts are those of one
+pub puts_by : (request : Request) (outcome : Outcome) → Ends request outcome → IsSome outcome.put → IsPut request.words
 puts_by request outcome (inl none) some = absurd (nothing_put outcome _ none.1 refl some)
 puts_by request outcome (inr (inl unread)) some = absurd (nothing_put outcome _ unread.1 refl some)
-puts_by request outcome (inr (inr read)) some = build_by request.words read.command read.reads (put_by read.command read.bytes read.text outcome read.comes_to some)
+puts_by request outcome (inr (inr read)) some = (read.command, read.reads, put_by read.command read.bytes read.text outcome read.comes_to some)
 
 -- nor has it taken more of the input than one may
 pub put_takes : (request : Request) (outcome : Outcome) → Ends request outcome → IsSome outcome.put → GivesAtMost 1048577 request.input.left.before request.input.left.after
@@ -158,6 +171,7 @@ by_answer call CycleBound cause = inr (inr cause)
 by_answer call Trap cause = inr (inr cause)
 by_answer call ImageRefused cause = inr (inr cause)
 by_answer call InputRefused cause = inr (inr cause)
+by_answer call ElfRefused cause = inr (inr cause)
 
 -- an answer where no fault rose
 abbrev pub IsAnswered : Command → List ℕ → List ℕ → Status → Type 0
@@ -200,6 +214,14 @@ read_whole bytes image is = let short = image_short (take 5434905 bytes) image i
 image_read : (bytes : List ℕ) (image : Image) → IsImageOf (take 5434905 bytes) image → IsImage bytes
 image_read bytes image is = (image, subst (λ (b : List ℕ). IsImageOf b image) (read_whole bytes image is) is)
 
+read_file : (bytes : List ℕ) (image : Image) → IsElfOf bytes image → take 5435037 bytes ≡ bytes
+read_file bytes image is = let short = elf_short bytes image is in take_all 5435037 bytes (omega arith)
+
+file_read : (bytes : List ℕ) (image : Image) → IsElfOf (take 5435037 bytes) image → IsElf bytes
+file_read bytes image is =
+    let short = elf_short (take 5435037 bytes) image is in
+    (image, subst (λ (b : List ℕ). IsElfOf b image) (whole 5435037 bytes (omega arith)) is)
+
 -- what is in order is not refused
 not_refused : (source : List ℕ) (outcome : Outcome) → IsText source → RefusesSource (take 1048577 source) outcome → ⊥
 not_refused source outcome text r =
@@ -208,6 +230,10 @@ not_refused source outcome text r =
 not_image_refused : (bytes : List ℕ) (outcome : Outcome) → IsImage bytes → RefusesImage (take 5434905 bytes) outcome → ⊥
 not_image_refused bytes outcome image r =
     image_accepted bytes r.report image (subst (λ (b : List ℕ). IsNoImageAs b r.report) (read_image bytes image.0 image.1) r.refused)
+
+not_elf_refused : (bytes : List ℕ) (outcome : Outcome) → IsElf bytes → RefusesElf (take 5435037 bytes) outcome → ⊥
+not_elf_refused bytes outcome file r =
+    elf_accepted bytes r.report file (subst (λ (b : List ℕ). IsNoElfAs b r.report) (read_file bytes file.0 file.1) r.refused)
 
 asked_there : (source : List ℕ) (show : Option Text) (shown : Option Row) (name : Text) → IsShown source show shown → show ≡ Some name → HasGlobal source name None → ⊥
 asked_there source None shown name is e none = absurd (cc)
@@ -259,11 +285,18 @@ same_image bytes a b is other = (one_image bytes a b is other).globals
 -- ---- what is in order
 
 -- what comes of an image and an input that is in order beside its globals
-accepted_run : (image : Image) (text : List ℕ) (p n globals : ℕ) (shown : Option Row) (outcome : Outcome) (status : Status) → vec_len image.globals ≡ globals
-    → IsInputBeside globals text → outcome.status ≡ status → EndsOn image (take 1048577 text) p n shown outcome → IsOfStand image text p n status
-accepted_run image text p n globals shown outcome status count input same (inl r) =
+accepted_run : (image : Image) (text : List ℕ) (p n globals : ℕ) (writing : Writing) (outcome : Outcome) (status : Status) → vec_len image.globals ≡ globals
+    → IsInputBeside globals text → outcome.status ≡ status → EndsOn image (take 1048577 text) p n writing outcome → IsOfStand image text p n status
+accepted_run image text p n globals writing outcome status count input same (inl r) =
     absurd (not_beside (vec_len image.globals) globals text r.fault count r.refused input)
-accepted_run image text p n globals shown outcome status count input same (inr r) =
+accepted_run image text p n globals writing outcome status count input same (inr r) =
+    (r.input, sym (input_of_taken (most_numbers (vec_len image.globals)) text) ∙ r.numbers, status-of outcome _ status r.is same)
+
+accepted_audit : (image : Image) (text : List ℕ) (p n globals : ℕ) (outcome : Outcome) (status : Status) → vec_len image.globals ≡ globals
+    → IsInputBeside globals text → outcome.status ≡ status → EndsAudit image (take 1048577 text) p n outcome → IsOfStand image text p n status
+accepted_audit image text p n globals outcome status count input same (inl r) =
+    absurd (not_beside (vec_len image.globals) globals text r.fault count r.refused input)
+accepted_audit image text p n globals outcome status count input same (inr r) =
     (r.input, sym (input_of_taken (most_numbers (vec_len image.globals)) text) ∙ r.numbers, status-of outcome _ status r.is same)
 
 accepted_ends : (command : Command) (bytes text : List ℕ) (outcome : Outcome) (status : Status) → IsReadable command bytes → IsAccepted command bytes text → outcome.status ≡ status → ComesToFirst command bytes text outcome → IsOfAccepted command bytes text status
@@ -272,16 +305,30 @@ accepted_ends (Run f p n s) source text outcome status is input same (inr (inl r
 accepted_ends (Run f p n s) source text outcome status is input same (inr (inr r)) =
     let built = subst (λ (b : List ℕ). IsFaithful b r.image) (read_text source is.0) r.compiled in
     let count = globals_of source r.image input.0 input.1 built input.2 in
-    inr (r.image, built, accepted_run r.image text p n (length (words_by input.0 input.1)) r.shown outcome status count input.3 same r.ends)
+    inr (r.image, built, accepted_run r.image text p n (length (words_by input.0 input.1)) (Prints r.shown) outcome status count input.3 same r.ends)
 accepted_ends (Build f i) source text outcome status is input same (inl r) = absurd (not_refused source outcome is r)
 accepted_ends (Build f i) source text outcome status is input same (inr r) = inr (status-of outcome _ status r.is same)
 accepted_ends (Exec f p n) bytes text outcome status is input same (inl r) = absurd (not_image_refused bytes outcome is r)
 accepted_ends (Exec f p n) bytes text outcome status is input same (inr r) =
     let spelled = subst (λ (b : List ℕ). IsImageOf b r.image) (read_image bytes is.0 is.1) r.spelled in
     let count = same_count r.image input.0 (same_image bytes r.image input.0 spelled input.1) in
-    inr (r.image, spelled, accepted_run r.image text p n (vec_len input.0.globals) None outcome status count input.2 same r.ends)
+    inr (r.image, spelled, accepted_run r.image text p n (vec_len input.0.globals) (Prints None) outcome status count input.2 same r.ends)
 accepted_ends (ListCode f) bytes text outcome status is input same (inl r) = absurd (not_image_refused bytes outcome is r)
 accepted_ends (ListCode f) bytes text outcome status is input same (inr r) = inr (status-of outcome _ status r.is same)
+accepted_ends (Elf i f) bytes text outcome status is input same (inl r) = absurd (not_image_refused bytes outcome is r)
+accepted_ends (Elf i f) bytes text outcome status is input same (inr r) = inr (status-of outcome _ status r.is same)
+accepted_ends (Unelf f i) bytes text outcome status is input same (inl r) = absurd (not_elf_refused bytes outcome is r)
+accepted_ends (Unelf f i) bytes text outcome status is input same (inr r) = inr (status-of outcome _ status r.is same)
+accepted_ends (Audit f p n) source text outcome status is input same (inl r) = absurd (not_refused source outcome is r)
+accepted_ends (Audit f p n) source text outcome status is input same (inr r) =
+    let built = subst (λ (b : List ℕ). IsFaithful b r.image) (read_text source is) r.compiled in
+    let count = globals_of source r.image input.0 input.1 built input.2 in
+    inr (r.image, built, accepted_audit r.image text p n (length (words_by input.0 input.1)) outcome status count input.3 same r.ends)
+accepted_ends (Trace f p n) source text outcome status is input same (inl r) = absurd (not_refused source outcome is r)
+accepted_ends (Trace f p n) source text outcome status is input same (inr r) =
+    let built = subst (λ (b : List ℕ). IsFaithful b r.image) (read_text source is) r.compiled in
+    let count = globals_of source r.image input.0 input.1 built input.2 in
+    inr (r.image, built, accepted_run r.image text p n (length (words_by input.0 input.1)) Traces outcome status count input.3 same r.ends)
 
 -- where the file isn't
 unreadable_ends : (command : Command) (bytes text : List ℕ) (outcome : Outcome) (status : Status) → ¬ IsReadable command bytes → outcome.status ≡ status → ComesToFirst command bytes text outcome → IsOfUnreadable command status
@@ -295,6 +342,14 @@ unreadable_ends (Exec f p n) bytes text outcome status none same (inl r) = inr (
 unreadable_ends (Exec f p n) bytes text outcome status none same (inr r) = absurd (none (image_read bytes r.image r.spelled))
 unreadable_ends (ListCode f) bytes text outcome status none same (inl r) = inr (status-of outcome _ status r.is same)
 unreadable_ends (ListCode f) bytes text outcome status none same (inr r) = absurd (none (image_read bytes r.image r.spelled))
+unreadable_ends (Elf i f) bytes text outcome status none same (inl r) = inr (status-of outcome _ status r.is same)
+unreadable_ends (Elf i f) bytes text outcome status none same (inr r) = absurd (none (image_read bytes r.image r.spelled))
+unreadable_ends (Unelf f i) bytes text outcome status none same (inl r) = inr (status-of outcome _ status r.is same)
+unreadable_ends (Unelf f i) bytes text outcome status none same (inr r) = absurd (none (file_read bytes r.image r.made))
+unreadable_ends (Audit f p n) source text outcome status none same (inl r) = inr (status-of outcome _ status r.is same)
+unreadable_ends (Audit f p n) source text outcome status none same (inr r) = absurd (none (read_built source r.image r.compiled))
+unreadable_ends (Trace f p n) source text outcome status none same (inl r) = inr (status-of outcome _ status r.is same)
+unreadable_ends (Trace f p n) source text outcome status none same (inr r) = absurd (none (read_built source r.image r.compiled))
 
 -- and where the input isn't
 unaccepted_ends : (command : Command) (bytes text : List ℕ) (outcome : Outcome) (status : Status) → IsReadable command bytes → ¬ IsAccepted command bytes text → outcome.status ≡ status → ComesToFirst command bytes text outcome → IsOfUnaccepted status
@@ -305,7 +360,7 @@ unaccepted_ends (Run f p n s) source text outcome status is none same (inr (inr 
     faithful : IsFaithful source r.image
     faithful = subst (λ (b : List ℕ). IsFaithful b r.image) (read_text source is.0) r.compiled
 
-    by : EndsOn r.image (take 1048577 text) p n r.shown outcome → IsOfUnaccepted status
+    by : EndsOn r.image (take 1048577 text) p n (Prints r.shown) outcome → IsOfUnaccepted status
     by (inl refuses) = inr (status-of outcome _ status refuses.is same)
     by (inr runs) =
         let count = globals_of source r.image faithful.program faithful.facts faithful faithful.checked in
@@ -314,12 +369,36 @@ unaccepted_ends (Build f i) source text outcome status is none same comes = absu
 unaccepted_ends (Exec f p n) bytes text outcome status is none same (inl r) = absurd (not_image_refused bytes outcome is r)
 unaccepted_ends (Exec f p n) bytes text outcome status is none same (inr r) = by r.ends
   where
-    by : EndsOn r.image (take 1048577 text) p n None outcome → IsOfUnaccepted status
+    by : EndsOn r.image (take 1048577 text) p n (Prints None) outcome → IsOfUnaccepted status
     by (inl refuses) = inr (status-of outcome _ status refuses.is same)
     by (inr runs) =
         let spelled = subst (λ (b : List ℕ). IsImageOf b r.image) (read_image bytes is.0 is.1) r.spelled in
         absurd (none (r.image, spelled, beside (vec_len r.image.globals) _ text runs.input refl runs.numbers))
 unaccepted_ends (ListCode f) bytes text outcome status is none same comes = absurd (none tt)
+unaccepted_ends (Elf i f) bytes text outcome status is none same comes = absurd (none tt)
+unaccepted_ends (Unelf f i) bytes text outcome status is none same comes = absurd (none tt)
+unaccepted_ends (Audit f p n) source text outcome status is none same (inl r) = absurd (not_refused source outcome is r)
+unaccepted_ends (Audit f p n) source text outcome status is none same (inr r) = by r.ends
+  where
+    faithful : IsFaithful source r.image
+    faithful = subst (λ (b : List ℕ). IsFaithful b r.image) (read_text source is) r.compiled
+
+    by : EndsAudit r.image (take 1048577 text) p n outcome → IsOfUnaccepted status
+    by (inl refuses) = inr (status-of outcome _ status refuses.is same)
+    by (inr runs) =
+        let count = globals_of source r.image faithful.program faithful.facts faithful faithful.checked in
+        absurd (none (faithful.program, faithful.facts, faithful.checked, beside (vec_len r.image.globals) _ text runs.input count runs.numbers))
+unaccepted_ends (Trace f p n) source text outcome status is none same (inl r) = absurd (not_refused source outcome is r)
+unaccepted_ends (Trace f p n) source text outcome status is none same (inr r) = by r.ends
+  where
+    faithful : IsFaithful source r.image
+    faithful = subst (λ (b : List ℕ). IsFaithful b r.image) (read_text source is) r.compiled
+
+    by : EndsOn r.image (take 1048577 text) p n Traces outcome → IsOfUnaccepted status
+    by (inl refuses) = inr (status-of outcome _ status refuses.is same)
+    by (inr runs) =
+        let count = globals_of source r.image faithful.program faithful.facts faithful faithful.checked in
+        absurd (none (faithful.program, faithful.facts, faithful.checked, beside (vec_len r.image.globals) _ text runs.input count runs.numbers))
 
 -- want of memory is an answer in any case
 memory_accepted : (command : Command) (bytes text : List ℕ) (status : Status) → status ≡ Memory → IsOfAccepted command bytes text status
@@ -327,12 +406,20 @@ memory_accepted (Run f p n s) bytes text status is = inl is
 memory_accepted (Build f i) bytes text status is = inl is
 memory_accepted (Exec f p n) bytes text status is = inl is
 memory_accepted (ListCode f) bytes text status is = inl is
+memory_accepted (Elf i f) bytes text status is = inl is
+memory_accepted (Unelf f i) bytes text status is = inl is
+memory_accepted (Audit f p n) bytes text status is = inl is
+memory_accepted (Trace f p n) bytes text status is = inl is
 
 memory_unreadable : (command : Command) (status : Status) → status ≡ Memory → IsOfUnreadable command status
 memory_unreadable (Run f p n s) status is = inl is
 memory_unreadable (Build f i) status is = inl is
 memory_unreadable (Exec f p n) status is = inl is
 memory_unreadable (ListCode f) status is = inl is
+memory_unreadable (Elf i f) status is = inl is
+memory_unreadable (Unelf f i) status is = inl is
+memory_unreadable (Audit f p n) status is = inl is
+memory_unreadable (Trace f p n) status is = inl is
 
 -- ---- the answers to what is in order, and to what isn't
 

@@ -1,10 +1,12 @@
 pub mod Readable
 pub mod Inputs
+pub mod Runs
 pub mod Lost
-pub mod Pieces
 pub mod Causes
 pub mod Refusing
 pub mod Unread
 pub mod Answered
 pub mod Statuses
 pub mod Whole
+pub mod Audited
+pub mod Ended

@@ -36,6 +36,9 @@ use Rattle.fk_image.specs.Spelling.{IsImageOf, word_bytes, image_words, site_wor
 use Rattle.fk_image.proofs.Accepted.{no_refusal}
 use Rattle.fk_image.proofs.Commits.{few_of_image}
 use Rattle.fk_image.proofs.Images.{length-words, length-sites, length-commits}
+use Rattle.fk_elf.specs.Files.{IsElfOf}
+use Rattle.fk_elf.proofs.Faults.{no_refusal as no_elf_refusal}
+use Rattle.fk_elf.proofs.Files.{file-long, small}
 use Rattle.fk_compile_text.specs.declared.refusal.Refusal.{Refusal}
 use Rattle.fk_compile_text.specs.declared.refusal.Refusal.TheVariants.{BadByte, OpenComment, OpenString, WideNumber, Unexpected, EndOfText, Nesting, Rule, TooManySites, FrameTooLarge, GlobalsTooLarge, SourceTooLong, NotBuilt, Memory}
 use Rattle.fk_compile_text.specs.Refusal.{IsRefusedText}
@@ -44,8 +47,8 @@ use Rattle.fk_compile_text.specs.Plain.{is_plain, ArePlain}
 use Rattle.fk_compile_text.specs.Text.{HasTree, HasSyntaxFault, HasBrokenRule, HasGlobal, HasLayout, IsChecked, IsNotBuilt}
 use Rattle.fk_compile.specs.Faithful.{words_by}
 use Rattle.fk_top.specs.declared.report.Report.{Report}
-use Rattle.fk_top.specs.Refused.{IsRefusedBy, IsNoImageAs, refusal_line}
-use Rattle.fk_top.specs.Call.{IsText, IsImage}
+use Rattle.fk_top.specs.Refused.{IsRefusedBy, IsNoElfAs, IsNoImageAs, refusal_line}
+use Rattle.fk_top.specs.Call.{IsText, IsElf, IsImage}
 
 -- what was read short of its bound was read whole
 pub whole : (most : ℕ) (bytes : List ℕ) → length (take most bytes) < most → take most bytes ≡ bytes
@@ -165,6 +168,16 @@ image_short bytes image is =
 
 pub image_accepted : (bytes : List ℕ) (report : Report) → IsImage bytes → IsNoImageAs bytes report → ⊥
 image_accepted bytes report image r = no_refusal bytes image.0 r.fault image.1 r.refused
+
+-- ---- ELF files
+
+pub elf_short : (bytes : List ℕ) (image : Image) → IsElfOf bytes image → length bytes ≤ 5435036
+elf_short bytes image is =
+    let small = small image is.limits in
+    omega (arith, file-long bytes image is, small.code, small.globals, small.entries)
+
+pub elf_accepted : (bytes : List ℕ) (report : Report) → IsElf bytes → IsNoElfAs bytes report → ⊥
+elf_accepted bytes report file r = no_elf_refusal bytes file.0 r.fault file.1 r.refused
 
 -- ---- variables
 

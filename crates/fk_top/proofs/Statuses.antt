@@ -10,24 +10,30 @@ use Rattle.fk_compile.specs.Faithful.{IsFaithful}
 use Rattle.fk_compile.specs.Laws.{IsUntrapped}
 use Rattle.fk_compile.proofs.Untrapped.{never_traps}
 use Rattle.fk_top_words.specs.Arguments.{Text}
-use Rattle.fk_top_words.specs.Command.{Command, Run, Build, Exec, ListCode, Reads, ReadsRun}
-use Rattle.fk_layout_globals.specs.Rows.{Row}
+use Rattle.fk_top_words.specs.Command.{Command, Run, Build, Exec, ListCode, Elf, Unelf, Audit, Trace, Reads, ReadsRun}
 use Rattle.fk_top.specs.declared.status.Status.{Status}
-use Rattle.fk_top.specs.declared.status.Status.TheVariants.{Done, Refused, SourceFault, CycleBound, Trap, ImageRefused, InputRefused}
+use Rattle.fk_top.specs.declared.status.Status.TheVariants.{Done, Refused, SourceFault, CycleBound, Trap, ImageRefused, InputRefused, ElfRefused}
 use Rattle.fk_top.specs.Words.{Runs, IsRun, IsExec}
-use Rattle.fk_top.specs.Outcome.{Outcome, EndsOn, ComesTo, status_of}
+use Rattle.fk_top.specs.Outcome.{Outcome, Writing, Prints, Traces, EndsOn, EndsAudit, ComesTo, status_of}
 use Rattle.fk_top.proofs.Inputs.{is_input}
 
--- the command reads a source, or bytes of an image, or runs an image of bytes
+-- the command reads a source, or bytes of an image or of an ELF file, or runs an image of bytes
 abbrev pub ReadsSource : Command → Type 0
 ReadsSource (Run file harts cycles show) = Unit {0}
 ReadsSource (Build file image) = Unit {0}
+ReadsSource (Audit file harts cycles) = Unit {0}
+ReadsSource (Trace file harts cycles) = Unit {0}
 ReadsSource command = ⊥
 
 abbrev pub ReadsImage : Command → Type 0
 ReadsImage (Exec image harts cycles) = Unit {0}
 ReadsImage (ListCode image) = Unit {0}
+ReadsImage (Elf image file) = Unit {0}
 ReadsImage command = ⊥
+
+abbrev pub ReadsElf : Command → Type 0
+ReadsElf (Unelf file image) = Unit {0}
+ReadsElf command = ⊥
 
 abbrev pub RunsImage : Command → Type 0
 RunsImage (Exec image harts cycles) = Unit {0}
@@ -38,6 +44,7 @@ abbrev pub IsOf : Status → Command → Type 0
 IsOf Done command = Unit {0}
 IsOf Refused command = ReadsSource command
 IsOf ImageRefused command = ReadsImage command
+IsOf ElfRefused command = ReadsElf command
 IsOf CycleBound command = Runs command
 IsOf InputRefused command = Runs command
 IsOf SourceFault command = Runs command
@@ -71,11 +78,19 @@ within_run : (words : List Text) (file : Text) (harts cycles : ℕ) (show : Opti
 within_run [] file harts cycles show reads = absurd reads
 within_run (word ∷ words) file harts cycles show reads = within words file harts cycles show reads.1
 
-of_untrapped : (file : Text) (harts cycles : ℕ) (show : Option Text) (stand : Stand) → IsUntrapped stand → IsOf (status_of stand) (Run file harts cycles show)
-of_untrapped file harts cycles show Running is = tt
-of_untrapped file harts cycles show Finished is = tt
-of_untrapped file harts cycles show (Faulted site hart) is = tt
-of_untrapped file harts cycles show (Trapped hart pc kind) is = absurd is
+within_audit : (words : List Text) (file : Text) (harts cycles : ℕ) → Reads words (Audit file harts cycles) → AreInBounds harts cycles
+within_audit [] file harts cycles reads = absurd reads
+within_audit (word ∷ words) file harts cycles reads = within words file harts cycles None reads.1
+
+within_trace : (words : List Text) (file : Text) (harts cycles : ℕ) → Reads words (Trace file harts cycles) → AreInBounds harts cycles
+within_trace [] file harts cycles reads = absurd reads
+within_trace (word ∷ words) file harts cycles reads = within words file harts cycles None reads.1
+
+of_untrapped : (command : Command) → Runs command → (stand : Stand) → IsUntrapped stand → IsOf (status_of stand) command
+of_untrapped command runs Running is = runs
+of_untrapped command runs Finished is = tt
+of_untrapped command runs (Faulted site hart) is = runs
+of_untrapped command runs (Trapped hart pc kind) is = absurd is
 
 of_stand : (image : Text) (harts cycles : ℕ) (stand : Stand) → IsOf (status_of stand) (Exec image harts cycles)
 of_stand image harts cycles Running = tt
@@ -88,14 +103,21 @@ of_stand image harts cycles (Trapped hart pc kind) = tt
 is_of : (command : Command) (outcome other : Outcome) → outcome ≡ other → IsOf other.status command → IsOf outcome.status command
 is_of command outcome other same is = subst (λ (o : Outcome). IsOf o.status command) (sym same) is
 
-of_source : (source text : List ℕ) (image : Image) (f : Text) (p n : ℕ) (show : Option Text) (shown : Option Row) (outcome : Outcome) → IsFaithful source image → AreInBounds p n → EndsOn image text p n shown outcome → IsOf outcome.status (Run f p n show)
-of_source source text image f p n show shown outcome faithful bounds (inl r) = is_of (Run f p n show) outcome _ r.is tt
-of_source source text image f p n show shown outcome faithful bounds (inr r) =
+of_source : (source text : List ℕ) (image : Image) (command : Command) (p n : ℕ) (writing : Writing) (outcome : Outcome) → Runs command → IsFaithful source image → AreInBounds p n → EndsOn image text p n writing outcome → IsOf outcome.status command
+of_source source text image command p n writing outcome runs faithful bounds (inl r) = is_of command outcome _ r.is runs
+of_source source text image command p n writing outcome runs faithful bounds (inr r) =
     let input = is_input image text r.input faithful.faithful.limits r.numbers in
     let stand = never_traps source image r.input p n faithful input bounds.some bounds.few bounds.bound in
-    is_of (Run f p n show) outcome _ r.is (of_untrapped f p n show (machine image r.input p n).stand stand)
+    is_of command outcome _ r.is (of_untrapped command runs (machine image r.input p n).stand stand)
 
-of_image : (text : List ℕ) (image : Image) (f : Text) (p n : ℕ) (outcome : Outcome) → EndsOn image text p n None outcome → IsOf outcome.status (Exec f p n)
+of_audit : (source text : List ℕ) (image : Image) (f : Text) (p n : ℕ) (outcome : Outcome) → IsFaithful source image → AreInBounds p n → EndsAudit image text p n outcome → IsOf outcome.status (Audit f p n)
+of_audit source text image f p n outcome faithful bounds (inl r) = is_of (Audit f p n) outcome _ r.is tt
+of_audit source text image f p n outcome faithful bounds (inr r) =
+    let input = is_input image text r.input faithful.faithful.limits r.numbers in
+    let stand = never_traps source image r.input p n faithful input bounds.some bounds.few bounds.bound in
+    is_of (Audit f p n) outcome _ r.is (of_untrapped (Audit f p n) tt (machine image r.input p n).stand stand)
+
+of_image : (text : List ℕ) (image : Image) (f : Text) (p n : ℕ) (outcome : Outcome) → EndsOn image text p n (Prints None) outcome → IsOf outcome.status (Exec f p n)
 of_image text image f p n outcome (inl r) = is_of (Exec f p n) outcome _ r.is tt
 of_image text image f p n outcome (inr r) = is_of (Exec f p n) outcome _ r.is (of_stand f p n (machine image r.input p n).stand)
 
@@ -103,13 +125,22 @@ pub outcome_is_of : (words : List Text) (command : Command) (bytes text : List �
 outcome_is_of words (Run f p n show) bytes text outcome reads (inl r) = is_of (Run f p n show) outcome _ r.is tt
 outcome_is_of words (Run f p n show) bytes text outcome reads (inr (inl r)) = is_of (Run f p n show) outcome _ r.is tt
 outcome_is_of words (Run f p n show) bytes text outcome reads (inr (inr r)) =
-    of_source bytes text r.image f p n show r.shown outcome r.compiled (within_run words f p n show reads) r.ends
+    of_source bytes text r.image (Run f p n show) p n (Prints r.shown) outcome tt r.compiled (within_run words f p n show reads) r.ends
 outcome_is_of words (Build f i) bytes text outcome reads (inl r) = is_of (Build f i) outcome _ r.is tt
 outcome_is_of words (Build f i) bytes text outcome reads (inr r) = is_of (Build f i) outcome _ r.is tt
 outcome_is_of words (Exec f p n) bytes text outcome reads (inl r) = is_of (Exec f p n) outcome _ r.is tt
 outcome_is_of words (Exec f p n) bytes text outcome reads (inr r) = of_image text r.image f p n outcome r.ends
 outcome_is_of words (ListCode f) bytes text outcome reads (inl r) = is_of (ListCode f) outcome _ r.is tt
 outcome_is_of words (ListCode f) bytes text outcome reads (inr r) = is_of (ListCode f) outcome _ r.is tt
+outcome_is_of words (Elf i f) bytes text outcome reads (inl r) = is_of (Elf i f) outcome _ r.is tt
+outcome_is_of words (Elf i f) bytes text outcome reads (inr r) = is_of (Elf i f) outcome _ r.is tt
+outcome_is_of words (Unelf f i) bytes text outcome reads (inl r) = is_of (Unelf f i) outcome _ r.is tt
+outcome_is_of words (Unelf f i) bytes text outcome reads (inr r) = is_of (Unelf f i) outcome _ r.is tt
+outcome_is_of words (Audit f p n) bytes text outcome reads (inl r) = is_of (Audit f p n) outcome _ r.is tt
+outcome_is_of words (Audit f p n) bytes text outcome reads (inr r) = of_audit bytes text r.image f p n outcome r.compiled (within_audit words f p n reads) r.ends
+outcome_is_of words (Trace f p n) bytes text outcome reads (inl r) = is_of (Trace f p n) outcome _ r.is tt
+outcome_is_of words (Trace f p n) bytes text outcome reads (inr r) =
+    of_source bytes text r.image (Trace f p n) p n Traces outcome tt r.compiled (within_trace words f p n reads) r.ends
 
 -- what alone runs an image of bytes is `exec`
 pub is_exec : (words : List Text) (command : Command) → Reads words command → RunsImage command → IsExec words
@@ -117,6 +148,10 @@ is_exec words (Run f p n show) reads none = absurd none
 is_exec words (Build f i) reads none = absurd none
 is_exec words (Exec f p n) reads is = (f, p, n, reads)
 is_exec words (ListCode f) reads none = absurd none
+is_exec words (Elf i f) reads none = absurd none
+is_exec words (Unelf f i) reads none = absurd none
+is_exec words (Audit f p n) reads none = absurd none
+is_exec words (Trace f p n) reads none = absurd none
 
 pub is_run : (words : List Text) (command : Command) → Reads words command → Runs command → IsRun words
 is_run words command reads runs = (command, reads, runs)

@@ -6,7 +6,7 @@ use Rattle.fk_top.specs.declared.status.Status.{Status}
 use Rattle.fk_top.specs.declared.status.Status.TheVariants.{Usage, ReadFault, SourceFault, Trap, InputRefused}
 use Rattle.fk_top_words.specs.Command.{Command, Reads}
 use Rattle.fk_top_words.proofs.OneCommand.{one_command}
-use Rattle.fk_top.specs.Words.{IsRun, IsBuild, IsExec, file_of, most_bytes}
+use Rattle.fk_top.specs.Words.{IsRun, IsPut, IsExec, file_of, most_bytes}
 use Rattle.fk_top.specs.Outcome.{Outcome, Put}
 use Rattle.fk_top.specs.Call.{Call, Request, Stored, HasPut, IsSame, Ends, IsNoCommand, IsUnread, HasRead, HasEnded, HasCause, IsCut, AreCut, FailsToWrite, TellsFaults, IsAbsent, IsOfAbsent, IsOfNoCommand, IsAnswer}
 use Rattle.fk_top.proofs.Answered.{nothing_of}
@@ -93,12 +93,12 @@ module _ (call : Call) (status : Status) (ended : HasEnded call status) (no_usag
       go (inr (inl unread)) = absurd (no_fault (sym ended.status_is ∙ ap (λ (o : Outcome). o.status) unread.1))
       go (inr (inr read)) = of_command read.command read.reads (status_of_read call.request ended.outcome status read ended.status_is)
 
--- ---- only a build puts
+-- ---- only a command that puts a file does
 
 same_files : (store : Stored) (put : Option Put) → put ≡ None → HasPut store put → IsSame store.files
 same_files store put none has = subst (λ (p : Option Put). HasPut store p) none has
 
-files : (call : Call) (status : Status) → HasCause call status → ¬ IsBuild call.request.words → IsSame call.store.files
+files : (call : Call) (status : Status) → HasCause call status → ¬ IsPut call.request.words → IsSame call.store.files
 files call status cause not = go (by_answer call status cause)
   where
     of : (outcome : Outcome) → Ends call.request outcome → HasPut call.store outcome.put → IsSame call.store.files
@@ -117,7 +117,7 @@ files call status cause not = go (by_answer call status cause)
 -- ---- all of it
 
 pub answer_of : (call : Call) (status : Status) → HasCause call status → TellsFaults call status → (¬ IsRun call.request.words → IsSame call.request.input.left)
-    → (¬ IsRun call.request.words → IsSame call.request.input.faults) → (¬ IsBuild call.request.words → IsSame call.store.faults) → IsAnswer call status
+    → (¬ IsRun call.request.words → IsSame call.request.input.faults) → (¬ IsPut call.request.words → IsSame call.store.faults) → IsAnswer call status
 answer_of call status cause told left input_faults steady = record {
   answer = cause;
   usage = λ is. usage call (subst (HasCause call) is cause);

@@ -11,18 +11,22 @@ use Rattle.fk_syntax.specs.declared.facts.Facts.{Facts}
 use Rattle.fk_syntax.specs.Program.{ProgramTree}
 use Rattle.fk_image.specs.declared.Image.{Image}
 use Rattle.fk_image.specs.Spelling.{IsImageOf}
+use Rattle.fk_elf.specs.Files.{IsElfOf}
 use Rattle.fk_machine.specs.Run.{machine}
 use Rattle.fk_layout_globals.specs.Rows.{Row}
 use Rattle.fk_compile_text.specs.Text.{IsBuilt, IsChecked}
 use Rattle.fk_compile.specs.Faithful.{IsFaithful, words_by}
 use Rattle.fk_top_input.specs.Input.{input_of}
-use Rattle.fk_top_words.specs.Command.{Command, Run, Build, Exec, ListCode, Reads}
+use Rattle.fk_top_words.specs.Command.{Command, Run, Build, Exec, ListCode, Elf}
+use Rattle.fk_top_words.specs.Command.{Unelf, Audit, Trace, Reads}
 use Rattle.fk_top.specs.declared.report.Report.TheVariants as reports
 use Rattle.fk_top.specs.declared.status.Status.{Status}
 use Rattle.fk_top.specs.declared.status.Status.TheVariants.{Done, Refused, Usage, ReadFault}
 use Rattle.fk_top.specs.declared.status.Status.TheVariants.{WriteFault, Memory, SourceFault, Trap}
 use Rattle.fk_top.specs.declared.status.Status.TheVariants.{ImageRefused, InputRefused}
-use Rattle.fk_top.specs.Words.{Runs, IsRun, IsBuild, IsExec, file_of, most_bytes, most_input}
+use Rattle.fk_top.specs.declared.status.Status.TheVariants.{ElfRefused}
+use Rattle.fk_top.specs.Words.{Runs, IsRun, Puts, IsPut, IsExec, file_of, most_bytes}
+use Rattle.fk_top.specs.Words.{most_input}
 use Rattle.fk_top.specs.Report.{line_of}
 use Rattle.fk_top.specs.Outcome.{Put, Outcome, silent, status_of, IsShown, most_numbers}
 use Rattle.fk_top.specs.Outcome.{numbers_for, ComesTo}
@@ -205,10 +209,10 @@ HasCause call status = HasEnded call status
 
 -- ---- when each status is answered
 
--- The store failed in the put of a build, or a sink failed.
+-- The store failed in a put, or a sink failed.
 abbrev pub FailsToWrite : Call → Type 0
 FailsToWrite call =
-    (IsBuild call.request.words × Rose call.store.faults) ⊎ Rose call.out.faults
+    (IsPut call.request.words × Rose call.store.faults) ⊎ Rose call.out.faults
     ⊎ Rose call.err.faults
 
 -- What failed is reported. If the status isn't WriteFault, no count of `put`, `out` or `err` rose.
@@ -234,11 +238,6 @@ IsOfAbsent status = (status ≡ ReadFault) ⊎ (status ≡ WriteFault) ⊎ (stat
 abbrev pub IsOfNoCommand : Status → Type 0
 IsOfNoCommand status = (status ≡ Usage) ⊎ (status ≡ WriteFault) ⊎ (status ≡ Memory)
 
--- The command puts a file.
-abbrev pub Puts : Command → Type 0
-Puts (Build file image) = Unit {0}
-Puts command = ⊥
-
 -- The words are a command whose file the store has, with these bytes. What is left of the input is
 -- this text, and no count of faults rose in the call.
 pub record IsInOrder (call : Call) (command : Command) (bytes text : List ℕ) : Type 0 where
@@ -263,30 +262,45 @@ pub record IsText (source : List ℕ) : Type 0 where
 abbrev pub IsImage : List ℕ → Type 0
 IsImage bytes = (image : Image) × IsImageOf bytes image
 
--- The file that a command reads is in order: a text, which has the variable that is to be shown, or
--- an image.
+-- The bytes of the ELF file of an image.
+abbrev pub IsElf : List ℕ → Type 0
+IsElf bytes = (image : Image) × IsElfOf bytes image
+
+-- The file that a command reads is in order: a text, which has the variable that is to be shown, an
+-- image, or the ELF file of one.
 abbrev pub IsReadable : Command → List ℕ → Type 0
 IsReadable (Run file harts cycles show) source = IsText source × (shown : Option Row)
     × IsShown source show shown
 IsReadable (Build file image) source = IsText source
 IsReadable (Exec image harts cycles) bytes = IsImage bytes
 IsReadable (ListCode image) bytes = IsImage bytes
+IsReadable (Elf image file) bytes = IsImage bytes
+IsReadable (Unelf file image) bytes = IsElf bytes
+IsReadable (Audit file harts cycles) source = IsText source
+IsReadable (Trace file harts cycles) source = IsText source
 
 -- The text has numbers, and no more than there may be beside this many globals.
 abbrev pub IsInputBeside : ℕ → List ℕ → Type 0
 IsInputBeside globals text = (numbers : List ℕ)
     × (input_of (most_numbers globals) text ≡ Ok numbers)
 
+-- The input is in order beside the shared variables of a text.
+abbrev pub IsInputOfText : List ℕ → List ℕ → Type 0
+IsInputOfText source text = (program : ProgramTree) × (facts : Facts)
+    × IsChecked source program facts × IsInputBeside (length (words_by program facts)) text
+
 -- The input of a command is in order, beside the shared variables of its text or beside the globals
 -- of its image.
 abbrev pub IsAccepted : Command → List ℕ → List ℕ → Type 0
-IsAccepted (Run file harts cycles show) source text =
-    (program : ProgramTree) × (facts : Facts) × IsChecked source program facts
-    × IsInputBeside (length (words_by program facts)) text
+IsAccepted (Run file harts cycles show) source text = IsInputOfText source text
 IsAccepted (Build file image) source text = Unit {0}
 IsAccepted (Exec image harts cycles) bytes text =
     (read : Image) × IsImageOf bytes read × IsInputBeside (vec_len read.globals) text
 IsAccepted (ListCode image) bytes text = Unit {0}
+IsAccepted (Elf image file) bytes text = Unit {0}
+IsAccepted (Unelf file image) bytes text = Unit {0}
+IsAccepted (Audit file harts cycles) source text = IsInputOfText source text
+IsAccepted (Trace file harts cycles) source text = IsInputOfText source text
 
 -- The status for the machine of an image on the numbers of a text.
 abbrev pub IsOfStand : Image → List ℕ → ℕ → ℕ → Status → Type 0
@@ -294,17 +308,27 @@ IsOfStand image text harts cycles status =
     (input : List ℕ) × (numbers_for image text ≡ Ok input)
     × (status ≡ status_of (machine image input harts cycles).stand)
 
+-- The status for the machine of an image of a text.
+abbrev pub IsOfRun : List ℕ → List ℕ → ℕ → ℕ → Status → Type 0
+IsOfRun source text harts cycles status =
+    (image : Image) × IsFaithful source image × IsOfStand image text harts cycles status
+
 -- The statuses where both are in order: Memory, that of the run of an image of the source or of the
 -- bytes, or Done.
 abbrev pub IsOfAccepted : Command → List ℕ → List ℕ → Status → Type 0
 IsOfAccepted (Run file harts cycles show) source text status =
-    (status ≡ Memory)
-    ⊎ ((image : Image) × IsFaithful source image × IsOfStand image text harts cycles status)
+    (status ≡ Memory) ⊎ IsOfRun source text harts cycles status
 IsOfAccepted (Build file image) source text status = (status ≡ Memory) ⊎ (status ≡ Done)
 IsOfAccepted (Exec image harts cycles) bytes text status =
     (status ≡ Memory)
     ⊎ ((read : Image) × IsImageOf bytes read × IsOfStand read text harts cycles status)
 IsOfAccepted (ListCode image) bytes text status = (status ≡ Memory) ⊎ (status ≡ Done)
+IsOfAccepted (Elf image file) bytes text status = (status ≡ Memory) ⊎ (status ≡ Done)
+IsOfAccepted (Unelf file image) bytes text status = (status ≡ Memory) ⊎ (status ≡ Done)
+IsOfAccepted (Audit file harts cycles) source text status =
+    (status ≡ Memory) ⊎ IsOfRun source text harts cycles status
+IsOfAccepted (Trace file harts cycles) source text status =
+    (status ≡ Memory) ⊎ IsOfRun source text harts cycles status
 
 -- The statuses where the file isn't in order.
 abbrev pub IsOfUnreadable : Command → Status → Type 0
@@ -312,6 +336,10 @@ IsOfUnreadable (Run file harts cycles show) status = (status ≡ Memory) ⊎ (st
 IsOfUnreadable (Build file image) status = (status ≡ Memory) ⊎ (status ≡ Refused)
 IsOfUnreadable (Exec image harts cycles) status = (status ≡ Memory) ⊎ (status ≡ ImageRefused)
 IsOfUnreadable (ListCode image) status = (status ≡ Memory) ⊎ (status ≡ ImageRefused)
+IsOfUnreadable (Elf image file) status = (status ≡ Memory) ⊎ (status ≡ ImageRefused)
+IsOfUnreadable (Unelf file image) status = (status ≡ Memory) ⊎ (status ≡ ElfRefused)
+IsOfUnreadable (Audit file harts cycles) status = (status ≡ Memory) ⊎ (status ≡ Refused)
+IsOfUnreadable (Trace file harts cycles) status = (status ≡ Memory) ⊎ (status ≡ Refused)
 
 -- The statuses where the file is in order and the input isn't.
 abbrev pub IsOfUnaccepted : Status → Type 0
@@ -322,7 +350,7 @@ IsOfUnaccepted status = (status ≡ Memory) ⊎ (status ≡ InputRefused)
 pub record IsAnswer (call : Call) (status : Status) : Type 0 where
   -- Each status has its cause. The status, the bytes that were put, and those that `out` and `err`
   -- got are those of one image. It is faithful to the bytes that were fetched, or these are its
-  -- bytes.
+  -- bytes or its ELF file.
   pub answer : HasCause call status
   -- Words that are no command.
   pub usage : status ≡ Usage → IsNoCommand call.request.words
@@ -349,6 +377,6 @@ pub record IsAnswer (call : Call) (status : Status) : Type 0 where
   pub input_refused : (command : Command) (bytes text : List ℕ) → IsInOrder call command bytes text
       → IsReadable command bytes
       → ¬ IsAccepted command bytes text → IsOfUnaccepted status
-  -- Only a build puts a file.
-  pub files : ¬ IsBuild call.request.words → IsSame call.store.files
-  pub put_faults : ¬ IsBuild call.request.words → IsSame call.store.faults
+  -- Only a command that puts a file changes the store.
+  pub files : ¬ IsPut call.request.words → IsSame call.store.files
+  pub put_faults : ¬ IsPut call.request.words → IsSame call.store.faults

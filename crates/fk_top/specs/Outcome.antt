@@ -5,15 +5,21 @@ use Rattle.std.specs.List.{range_with_len}
 use Rattle.fk_num.specs.Limits.{most_data_words, most_text_bytes}
 use Rattle.fk_image.specs.declared.Image.{Image}
 use Rattle.fk_image.specs.Spelling.{IsImageOf}
+use Rattle.fk_elf.specs.Files.{IsElfOf}
 use Rattle.fk_asm.specs.Listing as lines
 use Rattle.fk_top_input.specs.declared.fault.InputFault.{InputFault}
 use Rattle.fk_top_input.specs.Input.{input_of}
 use Rattle.fk_top_words.specs.Arguments.{Text}
-use Rattle.fk_top_words.specs.Command.{Command, Run, Build, Exec, ListCode}
+use Rattle.fk_top_words.specs.Command.{Command, Run, Build, Exec, ListCode, Elf}
+use Rattle.fk_top_words.specs.Command.{Unelf, Audit, Trace}
 use Rattle.fk_machine.specs.declared.stand.Stand.{Stand}
 use Rattle.fk_machine.specs.declared.stand.Stand.TheVariants.{Running, Finished, Faulted, Trapped}
-use Rattle.fk_machine.specs.Cycle.{Machine}
+use Rattle.fk_machine.specs.Cycle.{Machine, machine_opening}
 use Rattle.fk_machine.specs.Run.{machine, output_of}
+use Rattle.fk_audit.specs.declared.access.AccessKind.TheVariants.{Read, Write}
+use Rattle.fk_audit.specs.declared.verdict.Verdict.{Verdict}
+use Rattle.fk_audit.specs.Clash.{IsFirstOf}
+use Rattle.fk_trace.specs.Early.{trace_of}
 use Rattle.fk_layout_globals.specs.Rows.{Row}
 use Rattle.fk_compile_text.specs.Text.{HasGlobal}
 use Rattle.fk_compile.specs.Faithful.{IsFaithful}
@@ -23,8 +29,10 @@ use Rattle.fk_top.specs.declared.report.Report.TheVariants as reports
 use Rattle.fk_top.specs.declared.status.Status.{Status}
 use Rattle.fk_top.specs.declared.status.Status.TheVariants.{Done, Refused, SourceFault, CycleBound}
 use Rattle.fk_top.specs.declared.status.Status.TheVariants.{Trap, ImageRefused, InputRefused}
+use Rattle.fk_top.specs.declared.status.Status.TheVariants.{ElfRefused}
 use Rattle.fk_top.specs.Report.{fault_kind, trap_kind, line_of, no_global_line, show_line}
-use Rattle.fk_top.specs.Refused.{IsRefusedBy, IsNoImageAs, input_report_of}
+use Rattle.fk_top.specs.Report.{verdict_text}
+use Rattle.fk_top.specs.Refused.{IsNoElfAs, IsNoImageAs, IsRefusedBy, input_report_of}
 
 -- A file that is put: its name and its bytes.
 pub record Put : Type 0 where
@@ -78,16 +86,47 @@ abbrev pub with_shown : List ℕ → Option Row → Machine → List ℕ
 with_shown output None m = output
 with_shown output (Some row) m = output ++ show_line row.name row.signed (words_in m row)
 
+-- What is written of a run: what the program prints, followed by the line of a variable, if one is
+-- shown; or the trace of the run.
+pub data Writing : Type 0 where
+  Prints : (shown : Option Row) → Writing
+  Traces : Writing
+
+abbrev pub written : Image → List ℕ → ℕ → ℕ → Writing → List ℕ
+written image input harts bound (Prints shown) =
+    with_shown (output_of image input harts bound) shown (machine image input harts bound)
+written image input harts bound Traces = trace_of bound (machine_opening image input harts)
+
 -- The outcome of running the machine of an image on these input numbers for at most `bound` cycles.
-abbrev pub ran : Image → List ℕ → ℕ → ℕ → Option Row → Outcome
-ran image input harts bound shown =
+abbrev pub ran : Image → List ℕ → ℕ → ℕ → Writing → Outcome
+ran image input harts bound writing =
     let m = machine image input harts bound in
     record {
       status = status_of m.stand;
       put = None;
-      output = with_shown (output_of image input harts bound) shown m;
+      output = written image input harts bound writing;
       line = line_of (stand_report image bound m.stand m.begun);
     }
+
+-- ---- the audit of a run
+
+-- The outcome of an audit with this verdict of running the machine of an image on these input
+-- numbers for at most `bound` cycles. The program's own output isn't printed.
+abbrev pub audited : Image → List ℕ → ℕ → ℕ → Verdict → Outcome
+audited image input harts bound verdict =
+    let m = machine image input harts bound in
+    record {
+      status = status_of m.stand;
+      put = None;
+      output = verdict_text verdict;
+      line = line_of (stand_report image bound m.stand m.begun);
+    }
+
+-- The verdict tells the first clash of each kind in that run.
+pub record IsVerdict (image : Image) (input : List ℕ) (harts bound : ℕ)
+    (verdict : Verdict) : Type 0 where
+  pub read : IsFirstOf Read (machine_opening image input harts) bound verdict.read
+  pub write : IsFirstOf Write (machine_opening image input harts) bound verdict.write
 
 -- ---- an image that is put or listed
 
@@ -99,6 +138,16 @@ built name bytes image =
       put = Some (record { name = name; bytes = bytes });
       output = [];
       line = line_of (reports.Built (vec_len image.code));
+    }
+
+-- These bytes are put under a name.
+abbrev pub wrote : List ℕ → List ℕ → Outcome
+wrote name bytes =
+    record {
+      status = Done;
+      put = Some (record { name = name; bytes = bytes });
+      output = [];
+      line = line_of (reports.Wrote (length bytes));
     }
 
 -- One line for each word of code, from an address on.
@@ -128,6 +177,12 @@ pub record RefusesImage (bytes : List ℕ) (outcome : Outcome) : Type 0 where
   pub report : Report
   pub refused : IsNoImageAs bytes report
   pub is : outcome ≡ silent ImageRefused (line_of report)
+
+-- The bytes are the file of no image, and the call is refused.
+pub record RefusesElf (bytes : List ℕ) (outcome : Outcome) : Type 0 where
+  pub report : Report
+  pub refused : IsNoElfAs bytes report
+  pub is : outcome ≡ silent ElfRefused (line_of report)
 
 -- a name is asked for, but the source, which has an image, has no shared variable of that name
 pub record LacksGlobal (source : List ℕ) (show : Option Text) (outcome : Outcome) : Type 0 where
@@ -159,17 +214,17 @@ pub record RefusesInput (image : Image) (text : List ℕ) (outcome : Outcome) : 
   pub says : input_report_of fault ≡ Some report
   pub is : outcome ≡ silent InputRefused (line_of report)
 
--- The machine of an image ran on the numbers of the text, and the variable was shown.
-pub record RunsOn (image : Image) (text : List ℕ) (harts cycles : ℕ) (shown : Option Row)
+-- The machine of an image ran on the numbers of the text, and this was written of the run.
+pub record RunsOn (image : Image) (text : List ℕ) (harts cycles : ℕ) (writing : Writing)
     (outcome : Outcome) : Type 0 where
   pub input : List ℕ
   pub numbers : numbers_for image text ≡ Ok input
-  pub is : outcome ≡ ran image input harts cycles shown
+  pub is : outcome ≡ ran image input harts cycles writing
 
 -- The outcome for an image and an input text.
-abbrev pub EndsOn : Image → List ℕ → ℕ → ℕ → Option Row → Outcome → Type 0
-EndsOn image text harts cycles shown outcome = RefusesInput image text outcome
-    ⊎ RunsOn image text harts cycles shown outcome
+abbrev pub EndsOn : Image → List ℕ → ℕ → ℕ → Writing → Outcome → Type 0
+EndsOn image text harts cycles writing outcome = RefusesInput image text outcome
+    ⊎ RunsOn image text harts cycles writing outcome
 
 -- An image of the source was run, and the variable was shown; or the input was refused.
 pub record RunsSource (source text : List ℕ) (harts cycles : ℕ) (show : Option Text)
@@ -178,7 +233,34 @@ pub record RunsSource (source text : List ℕ) (harts cycles : ℕ) (show : Opti
   pub compiled : IsFaithful source image
   pub shown : Option Row
   pub is_shown : IsShown source show shown
-  pub ends : EndsOn image text harts cycles shown outcome
+  pub ends : EndsOn image text harts cycles (Prints shown) outcome
+
+-- An image of the source was run, and its run was traced; or the input was refused.
+pub record TracesSource (source text : List ℕ) (harts cycles : ℕ) (outcome : Outcome)
+    : Type 0 where
+  pub image : Image
+  pub compiled : IsFaithful source image
+  pub ends : EndsOn image text harts cycles Traces outcome
+
+-- The machine of an image ran on the numbers of the text, and was audited.
+pub record AuditsOn (image : Image) (text : List ℕ) (harts cycles : ℕ)
+    (outcome : Outcome) : Type 0 where
+  pub input : List ℕ
+  pub numbers : numbers_for image text ≡ Ok input
+  pub verdict : Verdict
+  pub is_verdict : IsVerdict image input harts cycles verdict
+  pub is : outcome ≡ audited image input harts cycles verdict
+
+-- The outcome of an audit for an image and an input text.
+abbrev pub EndsAudit : Image → List ℕ → ℕ → ℕ → Outcome → Type 0
+EndsAudit image text harts cycles outcome = RefusesInput image text outcome
+    ⊎ AuditsOn image text harts cycles outcome
+
+-- An image of the source was run and audited, or the input was refused.
+pub record AuditsSource (source text : List ℕ) (harts cycles : ℕ) (outcome : Outcome) : Type 0 where
+  pub image : Image
+  pub compiled : IsFaithful source image
+  pub ends : EndsAudit image text harts cycles outcome
 
 -- The bytes of an image of the source are put under a name.
 pub record PutsImage (source name : List ℕ) (outcome : Outcome) : Type 0 where
@@ -192,13 +274,29 @@ pub record PutsImage (source name : List ℕ) (outcome : Outcome) : Type 0 where
 pub record RunsImage (bytes text : List ℕ) (harts cycles : ℕ) (outcome : Outcome) : Type 0 where
   pub image : Image
   pub spelled : IsImageOf bytes image
-  pub ends : EndsOn image text harts cycles None outcome
+  pub ends : EndsOn image text harts cycles (Prints None) outcome
 
 -- The code of the image of the bytes is listed.
 pub record ListsImage (bytes : List ℕ) (outcome : Outcome) : Type 0 where
   pub image : Image
   pub spelled : IsImageOf bytes image
   pub is : outcome ≡ listed image
+
+-- The ELF file of the image of the bytes is put under a name.
+pub record PutsElf (bytes name : List ℕ) (outcome : Outcome) : Type 0 where
+  pub image : Image
+  pub spelled : IsImageOf bytes image
+  pub file : List ℕ
+  pub made : IsElfOf file image
+  pub is : outcome ≡ wrote name file
+
+-- The bytes of the image whose ELF file was read are put under a name.
+pub record PutsFromElf (file name : List ℕ) (outcome : Outcome) : Type 0 where
+  pub image : Image
+  pub made : IsElfOf file image
+  pub bytes : List ℕ
+  pub spelled : IsImageOf bytes image
+  pub is : outcome ≡ wrote name bytes
 
 -- The outcome of a command, for the bytes that it read and those of the input.
 abbrev pub ComesTo : Command → List ℕ → List ℕ → Outcome → Type 0
@@ -210,3 +308,11 @@ ComesTo (Build file image) source text outcome = RefusesSource source outcome
 ComesTo (Exec image harts cycles) bytes text outcome = RefusesImage bytes outcome
     ⊎ RunsImage bytes text harts cycles outcome
 ComesTo (ListCode image) bytes text outcome = RefusesImage bytes outcome ⊎ ListsImage bytes outcome
+ComesTo (Elf image file) bytes text outcome = RefusesImage bytes outcome
+    ⊎ PutsElf bytes file outcome
+ComesTo (Unelf file image) bytes text outcome = RefusesElf bytes outcome
+    ⊎ PutsFromElf bytes image outcome
+ComesTo (Audit file harts cycles) source text outcome = RefusesSource source outcome
+    ⊎ AuditsSource source text harts cycles outcome
+ComesTo (Trace file harts cycles) source text outcome = RefusesSource source outcome
+    ⊎ TracesSource source text harts cycles outcome

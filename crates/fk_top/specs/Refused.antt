@@ -3,6 +3,9 @@ use Rattle.std.specs.Prelude.{◌≡◌, ℕ, List, Option, Some, None}
 use Rattle.fk_image.specs.declared.fault.ImageFault.{ImageFault}
 use Rattle.fk_image.specs.declared.fault.ImageFault.TheVariants as fault
 use Rattle.fk_image.specs.Refusals as images
+use Rattle.fk_elf.specs.declared.fault.ElfFault.{ElfFault}
+use Rattle.fk_elf.specs.declared.fault.ElfFault.TheVariants as elf
+use Rattle.fk_elf.specs.Refusals as files
 use Rattle.fk_top_input.specs.declared.fault.InputFault.{InputFault}
 use Rattle.fk_top_input.specs.declared.fault.InputFault.TheVariants as input
 use Rattle.fk_compile_text.specs.declared.refusal.Refusal.{Refusal}
@@ -39,6 +42,15 @@ image_report_of (fault.BadTable entry) = Some (reports.BadTable entry)
 image_report_of (fault.BadWord word) = Some (reports.BadWord word)
 image_report_of (fault.Memory e) = None
 
+-- The report of why bytes are the file of no image. `Memory` has none.
+abbrev pub elf_report_of : ElfFault → Option Report
+elf_report_of (elf.ElfHeader offset) = Some (reports.ElfHeader offset)
+elf_report_of (elf.ElfShort bytes wanted) = Some (reports.ElfShort bytes wanted)
+elf_report_of (elf.ElfTail wanted) = Some (reports.ElfTail wanted)
+elf_report_of elf.ElfSizes = Some reports.ElfSizes
+elf_report_of (elf.ElfTable entry) = Some (reports.ElfTable entry)
+elf_report_of (elf.Memory e) = None
+
 -- The report of why an input text is refused. `Memory` has none.
 abbrev pub input_report_of : InputFault → Option Report
 input_report_of (input.NotANumber word) = Some (reports.NotANumber word)
@@ -57,3 +69,9 @@ pub record IsNoImageAs (bytes : List ℕ) (report : Report) : Type 0 where
   pub fault : ImageFault
   pub refused : images.IsRefusedImage bytes fault
   pub says : image_report_of fault ≡ Some report
+
+-- The bytes are the file of no image, and the report says why.
+pub record IsNoElfAs (bytes : List ℕ) (report : Report) : Type 0 where
+  pub fault : ElfFault
+  pub refused : files.IsRefusedElf bytes fault
+  pub says : elf_report_of fault ≡ Some report

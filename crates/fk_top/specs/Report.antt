@@ -1,10 +1,12 @@
 -- The report lines.
 use Rattle.std.specs.Prelude.{ℕ, Bool, true, false, List, [], ◌∷◌, ◌++◌, ◌==◌, if◌then◌else◌, codes}
-use Rattle.std.specs.Prelude.{flat_map}
+use Rattle.std.specs.Prelude.{flat_map, Option, Some, None}
 use Rattle.std.specs.Fmt.{decimal, signed_decimal}
 use Rattle.fk_num.specs.Word.{signed}
 use Rattle.fk_syntax.specs.declared.place.Place.{Place}
 use Rattle.fk_asm.specs.Listing.{eight_digits}
+use Rattle.fk_audit.specs.declared.verdict.Clash.{Clash}
+use Rattle.fk_audit.specs.declared.verdict.Verdict.{Verdict}
 use Rattle.fk_top.specs.declared.kinds.FaultKind.{FaultKind}
 use Rattle.fk_top.specs.declared.kinds.FaultKind.TheVariants as fault
 use Rattle.fk_top.specs.declared.kinds.TrapKind.{TrapKind}
@@ -18,7 +20,9 @@ use Rattle.fk_top.specs.declared.report.Report.TheVariants.{GlobalsTooLarge, Sou
 use Rattle.fk_top.specs.declared.report.Report.TheVariants.{Version, Short, LongTail, BadTable}
 use Rattle.fk_top.specs.declared.report.Report.TheVariants.{BadWord, NotANumber, OutOfRange}
 use Rattle.fk_top.specs.declared.report.Report.TheVariants.{TooMany, NotBuilt, CommandLine}
-use Rattle.fk_top.specs.declared.report.Report.TheVariants.{ReadFault}
+use Rattle.fk_top.specs.declared.report.Report.TheVariants.{ReadFault, Wrote}
+use Rattle.fk_top.specs.declared.report.Report.TheVariants.{ElfHeader, ElfShort, ElfTail}
+use Rattle.fk_top.specs.declared.report.Report.TheVariants.{ElfSizes, ElfTable}
 
 -- The fault of an operation, by its kind. Most kinds have none.
 abbrev pub fault_kind : ℕ → FaultKind
@@ -63,6 +67,7 @@ abbrev pub text_of : Report → List ℕ
 text_of (Finished cycles) = codes "finished after " ++ decimal cycles ++ codes " cycles"
 text_of (Built words) = codes "built " ++ decimal words ++ codes " words"
 text_of (Listed words) = codes "listed " ++ decimal words ++ codes " words"
+text_of (Wrote bytes) = codes "wrote " ++ decimal bytes ++ codes " bytes"
 text_of (Fault kind place processor cycles) =
     codes "fault " ++ fault_name kind ++ codes " at " ++ place_text place
     ++ codes " by processor " ++ decimal processor ++ codes " after " ++ decimal cycles
@@ -94,6 +99,12 @@ text_of (NotANumber word) = codes "refused 19 NotANumber " ++ decimal word
 text_of (OutOfRange word) = codes "refused 20 OutOfRange " ++ decimal word
 text_of (TooMany word) = codes "refused 21 TooMany " ++ decimal word
 text_of NotBuilt = codes "refused 22 NotBuilt"
+text_of (ElfHeader offset) = codes "refused 27 ElfHeader " ++ decimal offset
+text_of (ElfShort bytes wanted) =
+    codes "refused 28 ElfShort " ++ decimal bytes ++ codes " " ++ decimal wanted
+text_of (ElfTail wanted) = codes "refused 29 ElfTail " ++ decimal wanted
+text_of ElfSizes = codes "refused 30 ElfSizes"
+text_of (ElfTable entry) = codes "refused 31 ElfTable " ++ decimal entry
 text_of CommandLine = codes "refused command line"
 text_of ReadFault = codes "read fault"
 
@@ -120,3 +131,21 @@ words_text are_signed words = flat_map (word_text are_signed) words
 -- The line that shows a variable: its name, and its words as numbers.
 abbrev pub show_line : List ℕ → Bool → List ℕ → List ℕ
 show_line name are_signed words = name ++ codes " =" ++ words_text are_signed words ++ 10 ∷ []
+
+-- ---- the text of an audit
+
+-- The PRAM that a run needed, by its first clash of reads and its first clash of writes.
+abbrev pub pram_name : Option Clash → Option Clash → List ℕ
+pram_name None None = codes "EREW"
+pram_name (Some read) None = codes "CREW"
+pram_name read (Some write) = codes "CRCW"
+
+abbrev pub clash_text : Option Clash → List ℕ
+clash_text None = codes " none"
+clash_text (Some clash) =
+    codes " " ++ decimal clash.cycle ++ codes " 0x" ++ eight_digits clash.address
+
+abbrev pub verdict_text : Verdict → List ℕ
+verdict_text v =
+    codes "verdict " ++ pram_name v.read v.write ++ 10 ∷ codes "read" ++ clash_text v.read
+    ++ 10 ∷ codes "write" ++ clash_text v.write ++ 10 ∷ []

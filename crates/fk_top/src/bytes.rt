@@ -5,7 +5,8 @@ ghost use Rattle.fk_num.specs.Limits.{most_code_words};
 ghost use Rattle.fk_top.specs.Outcome.{ListsImage, RefusesImage, RunsImage, listing};
 ghost use Rattle.fk_top.specs.Ending.{outcome_of};
 
-use crate::ending::{Ending, LastLine, refused};
+use crate::ending::{Ending, LastLine, Told, refused};
+use crate::machine_run::RunText;
 use crate::refused::image_report_of;
 use crate::report::Report;
 use crate::run::run_ending;
@@ -15,7 +16,7 @@ use fk_image::read_image;
 use fk_top_words::RunWords;
 use std::alloc::{AllocError, Global};
 
-/// Reads an image and runs it on an input text. Fails if there isn't enough memory.
+/// Reads an image, to be run on an input text. Fails if there isn't enough memory.
 pub fn run_bytes<'a>(
     alloc: Global,
     bytes: &[u8],
@@ -26,7 +27,7 @@ pub fn run_bytes<'a>(
         ⊎ RunsImage bytes.now text.now run.entry.harts run.entry.cycles (outcome_of e)) }
 {
     match read_image(alloc, bytes) {
-        Ok(image) => run_ending(alloc, &image, text, run, None),
+        Ok(image) => run_ending(alloc, image, text, run, RunText::Output(None)),
         Err(fault) => refused(alloc, Status::ImageRefused, image_report_of(fault)),
     }
 }
@@ -37,13 +38,12 @@ pub fn list_bytes<'a>(alloc: Global, bytes: &[u8]) -> Result<Ending<'a>, AllocEr
         (λ e. RefusesImage bytes.now (outcome_of e) ⊎ ListsImage bytes.now (outcome_of e)) }
 {
     match read_image(alloc, bytes) {
-        Ok(image) => Ok(Ending {
+        Ok(image) => Ok(Ending::Told(Told {
             status: Status::Done,
             put: None,
             output: list_code(alloc, &image.code)?,
-            shown: None,
             line: LastLine::Reported(Report::Listed(image.code.len() as u32)),
-        }),
+        })),
         Err(fault) => refused(alloc, Status::ImageRefused, image_report_of(fault)),
     }
 }

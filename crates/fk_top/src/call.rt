@@ -1,30 +1,35 @@
 //! One call of the program.
 
-ghost use Rattle.std.specs.Prelude.{◌≡◌, ◌≢◌, ◌⊎◌, None, flat_map, map, option_map, string_bytes};
+ghost use Rattle.std.specs.Prelude.{◌≡◌, ◌≢◌, ◌⊎◌, None, map, option_map, string_bytes};
 ghost use Rattle.std.specs.Prelude.{IsErrOf, IsOk, OnErr, OnOk};
 ghost use Rattle.std.specs.Io.KnownBytes.{append_known};
 ghost use Rattle.fk_ports.specs.Faults.{HasRisen};
 ghost use Rattle.fk_ports.specs.Known.{TakesPrefix};
-ghost use Rattle.fk_top.specs.Ending.{last_line, outcome_of, put_of, shown_line, with_line};
-ghost use Rattle.fk_top.specs.Report.{frame_line, word_text, words_text};
-ghost use Rattle.fk_top.specs.Call.{Ends, FailedToPut, HasCause, HasPut, IsAnswer, Request};
-ghost use Rattle.fk_top.specs.Call.{call_of, given_of, request_of, stored_of, sunk_of};
+ghost use Rattle.fk_top.specs.Ending.{last_line, outcome_of, put_of, run_outcome, told_outcome};
+ghost use Rattle.fk_top.specs.Report.{frame_line};
+ghost use Rattle.fk_top.specs.Call.{Ends, FailedToPut, HasCause, HasPut, IsAnswer, IsSame, Request};
+ghost use Rattle.fk_top.specs.Call.{Stored, call_of, given_of, request_of, stored_of, sunk_of};
 
-use crate::ending::{Ending, LastLine, PutFile, Shown};
+use crate::ending::{Ending, LastLine, PutFile, Told};
 use crate::find::find_ending;
+use crate::machine_run::MachineRun;
+use crate::run::give_run;
+use crate::stand::{stand_report, status_of};
 use crate::status::Status;
-use fk_num::{signed_text, unsigned_text};
-use fk_ports::{Failed, Sink, Source, Store, StoreFault, give_all};
+use fk_num::unsigned_text;
+use fk_ports::{Failed, Sink, Source, Store, StoreFault, give_all, give_pieces};
 use std::alloc::{AllocError, Global};
 
 /// One call of the program with these words, those after the program's name, a store of files,
 /// standard input, standard output and standard error.
 ///
 /// The commands are `run FILE --harts P --cycles N [--show NAME]`, `build FILE -o IMAGE`, `exec
-/// IMAGE --harts P --cycles N` and `list IMAGE`. `run` and `exec` take the input numbers from
-/// `input`, once the file is read. A file is put before anything is given. Output is given when the
-/// run has ended, followed by the line of the variable that is shown. The report is the last line
-/// that `err` gets.
+/// IMAGE --harts P --cycles N`, `list IMAGE`, `elf IMAGE -o FILE`, `unelf FILE -o IMAGE`, and with
+/// the words of `run` but without `--show` `audit` and `trace`. Those that run something take the
+/// input numbers from `input`, once the file is read. A file is put before anything is given. What a
+/// cycle prints, or its lines in a trace, is given after that cycle; an audit is given when the run
+/// has ended. The line of the variable that is shown follows when the run has ended. The report is
+/// the last line that `err` gets. Once a run has begun, the call takes no memory.
 ///
 /// `IsAnswer` says, fact by fact, what holds of the words, the status, and what the store and the
 /// sinks have before the call and after it.
@@ -45,14 +50,14 @@ pub fn fork95<F: Store, S: Source, K: Sink, E: Sink>(
         IsAnswer (call_of request store printed reported) result }
 {
     match find_ending(alloc, words, files, input) {
-        Ok(ending) => give_ending(&ending, files, out, err),
+        Ok(ending) => give_ending(ending, files, out, err),
         Err(AllocError) => Status::Memory,
     }
 }
 
-// Puts the file of an ending, if it has one, gives the output, and then the line of the report.
+// Brings about the ending of a call.
 fn give_ending<F: Store, K: Sink, E: Sink>(
-    ending: &Ending,
+    ending: Ending,
     files: &mut F,
     out: &mut K,
     err: &mut E,
@@ -60,93 +65,80 @@ fn give_ending<F: Store, K: Sink, E: Sink>(
     ensures cause { let store = stored_of F.files F.put_faults files.old files.new in
         let printed = sunk_of K.taken K.faults out.old out.new in
         let reported = sunk_of E.taken E.faults err.old err.new in
-        (request : Request) → Ends request (outcome_of ending.now)
+        (request : Request) → Ends request (outcome_of ending.entry)
         → HasCause (call_of request store printed reported) result }
 
     // Only `WriteFault` reports a failed write, and only a put can fail for lack of memory.
     ensures put { result ≢ Status.WriteFault → F.put_faults files.new ≡ F.put_faults files.old }
     ensures out { result ≢ Status.WriteFault → K.faults out.new ≡ K.faults out.old }
     ensures err { result ≢ Status.WriteFault → E.faults err.new ≡ E.faults err.old }
-    ensures status { ending.now.put ≡ None
-        → (result ≡ ending.now.status) ⊎ (result ≡ Status.WriteFault) }
-    ensures nothing_put { ending.now.put ≡ None → F.put_faults files.new ≡ F.put_faults files.old }
+    ensures status { (outcome_of ending.entry).put ≡ None
+        → (result ≡ (outcome_of ending.entry).status) ⊎ (result ≡ Status.WriteFault) }
+    ensures nothing_put { (outcome_of ending.entry).put ≡ None
+        → F.put_faults files.new ≡ F.put_faults files.old }
     ensures fetch_faults { F.fetch_faults files.new ≡ F.fetch_faults files.old }
 {
-    match put_file(&ending.put, files) {
+    match ending {
+        Ending::Told(told) => give_told(&told, files, out, err),
+        Ending::Runs(run) => run_and_report(run, out, err),
+    }
+}
+
+// Puts the file of an ending, if it has one, gives the output, and then the line of the report.
+fn give_told<F: Store, K: Sink, E: Sink>(
+    told: &Told,
+    files: &mut F,
+    out: &mut K,
+    err: &mut E,
+) -> Status
+    ensures cause { let store = stored_of F.files F.put_faults files.old files.new in
+        let printed = sunk_of K.taken K.faults out.old out.new in
+        let reported = sunk_of E.taken E.faults err.old err.new in
+        (request : Request) → Ends request (told_outcome told.now)
+        → HasCause (call_of request store printed reported) result }
+    ensures put { result ≢ Status.WriteFault → F.put_faults files.new ≡ F.put_faults files.old }
+    ensures out { result ≢ Status.WriteFault → K.faults out.new ≡ K.faults out.old }
+    ensures err { result ≢ Status.WriteFault → E.faults err.new ≡ E.faults err.old }
+    ensures status { told.now.put ≡ None
+        → (result ≡ told.now.status) ⊎ (result ≡ Status.WriteFault) }
+    ensures nothing_put { told.now.put ≡ None → F.put_faults files.new ≡ F.put_faults files.old }
+    ensures fetch_faults { F.fetch_faults files.new ≡ F.fetch_faults files.old }
+{
+    match put_file(&told.put, files) {
         Err(StoreFault::Fault) => return Status::WriteFault,
         Err(StoreFault::Memory) => return Status::Memory,
         Ok(()) => {}
     }
-    if give_output(out, ending.output.as_slice(), &ending.shown).is_err() {
+    if give_all(out, told.output.as_slice()).is_err() {
         return Status::WriteFault;
     }
-    if give_line(err, &ending.line).is_err() {
+    if give_line(err, &told.line).is_err() {
         return Status::WriteFault;
     }
-    ending.status
+    told.status
 }
 
-// Gives the output, followed by the line of the variable that is shown, if any.
-fn give_output<K: Sink>(out: &mut K, output: &[u8], shown: &Option<Shown>) -> Result<(), Failed>
-    ensures all { OnOk result
-        (K.taken out.new ≡ append_known (K.taken out.old) (with_line output.now shown.now)) }
-    ensures prefix { OnErr result
-        (TakesPrefix (K.taken out.old) (K.taken out.new) (with_line output.now shown.now)) }
-    ensures fault { OnErr result (HasRisen (K.faults out.old) (K.faults out.new)) }
-    ensures steady { OnOk result (K.faults out.new ≡ K.faults out.old) }
+// Runs a machine, gives what is written of the run while it runs, and then the line of the report.
+// It puts nothing and takes no memory.
+fn run_and_report<K: Sink, E: Sink>(run: MachineRun, out: &mut K, err: &mut E) -> Status
+    ensures cause { let printed = sunk_of K.taken K.faults out.old out.new in
+        let reported = sunk_of E.taken E.faults err.old err.new in
+        (request : Request) (store : Stored) → IsSame store.files
+        → Ends request (run_outcome run.entry)
+        → HasCause (call_of request store printed reported) result }
+    ensures out { result ≢ Status.WriteFault → K.faults out.new ≡ K.faults out.old }
+    ensures err { result ≢ Status.WriteFault → E.faults err.new ≡ E.faults err.old }
+    ensures status { (result ≡ (run_outcome run.entry).status) ⊎ (result ≡ Status.WriteFault) }
 {
-    give_all(out, output)?;
-    match shown {
-        Some(shown) => give_shown(out, shown),
-        None => Ok(()),
+    let mut machine = run.machine;
+    let Ok(stand) = give_run(&mut machine, run.bound, run.text, out) else {
+        return Status::WriteFault;
+    };
+    let report = stand_report(&run.image, run.bound, stand, machine.cycles());
+    if give_line(err, &LastLine::Reported(report)).is_err() {
+        return Status::WriteFault;
     }
-}
-
-// Gives the line of a variable that is shown.
-fn give_shown<K: Sink>(out: &mut K, shown: &Shown) -> Result<(), Failed>
-    ensures all { OnOk result
-        (K.taken out.new ≡ append_known (K.taken out.old) (shown_line shown.now)) }
-    ensures prefix { OnErr result
-        (TakesPrefix (K.taken out.old) (K.taken out.new) (shown_line shown.now)) }
-    ensures fault { OnErr result (HasRisen (K.faults out.old) (K.faults out.new)) }
-    ensures steady { OnOk result (K.faults out.new ≡ K.faults out.old) }
-{
-    give_pieces(out, &[shown.name.as_bytes(), b" ="])?;
-    give_words(out, shown.words.as_slice(), shown.signed)?;
-    give_all(out, b"\n")
-}
-
-// Gives words as numbers, with a blank before each.
-fn give_words<K: Sink>(out: &mut K, words: &[u32], signed: bool) -> Result<(), Failed>
-    ensures all { OnOk result
-        (K.taken out.new ≡ append_known (K.taken out.old) (words_text signed words.now)) }
-    ensures prefix { OnErr result
-        (TakesPrefix (K.taken out.old) (K.taken out.new) (words_text signed words.now)) }
-    ensures fault { OnErr result (HasRisen (K.faults out.old) (K.faults out.new)) }
-    ensures steady { OnOk result (K.faults out.new ≡ K.faults out.old) }
-{
-    for word in words {
-        give_word(out, *word, signed)?;
-    }
-    Ok(())
-}
-
-// Gives a word as a number, with a blank before it.
-fn give_word<K: Sink>(out: &mut K, word: u32, signed: bool) -> Result<(), Failed>
-    ensures all { OnOk result
-        (K.taken out.new ≡ append_known (K.taken out.old) (word_text signed word)) }
-    ensures prefix { OnErr result
-        (TakesPrefix (K.taken out.old) (K.taken out.new) (word_text signed word)) }
-    ensures fault { OnErr result (HasRisen (K.faults out.old) (K.faults out.new)) }
-    ensures steady { OnOk result (K.faults out.new ≡ K.faults out.old) }
-{
-    if signed {
-        let number = signed_text(word);
-        give_pieces(out, &[b" ", number.as_slice()])
-    } else {
-        let number = unsigned_text(word);
-        give_pieces(out, &[b" ", number.as_slice()])
-    }
+    status_of(stand)
 }
 
 // Gives the last line.
@@ -187,21 +179,6 @@ fn give_frame<E: Sink>(err: &mut E, name: &[u8], words: u32) -> Result<(), Faile
             b"\n",
         ],
     )
-}
-
-// Gives pieces, one after another.
-fn give_pieces<K: Sink>(sink: &mut K, pieces: &[&[u8]]) -> Result<(), Failed>
-    ensures all { OnOk result (K.taken sink.new ≡ append_known (K.taken sink.old)
-        (flat_map (λ piece. piece.now) pieces.now)) }
-    ensures prefix { OnErr result (TakesPrefix (K.taken sink.old) (K.taken sink.new)
-        (flat_map (λ piece. piece.now) pieces.now)) }
-    ensures fault { OnErr result (HasRisen (K.faults sink.old) (K.faults sink.new)) }
-    ensures steady { OnOk result (K.faults sink.new ≡ K.faults sink.old) }
-{
-    for piece in pieces {
-        give_all(sink, *piece)?;
-    }
-    Ok(())
 }
 
 // Puts a file, if there is one.

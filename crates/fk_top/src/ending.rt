@@ -5,6 +5,7 @@ ghost use Rattle.fk_top.specs.Ending.{last_line, outcome_of};
 ghost use Rattle.fk_top.specs.Outcome.{silent};
 ghost use Rattle.fk_top.specs.Report.{line_of, no_global_line};
 
+use crate::machine_run::MachineRun;
 use crate::report::Report;
 use crate::status::Status;
 use std::alloc::{AllocError, Global};
@@ -14,16 +15,6 @@ use std::alloc::{AllocError, Global};
 pub struct PutFile<'a> {
     pub name: &'a str,
     pub bytes: Vec<u8>,
-}
-
-/// A variable that is shown.
-#[derive(Drop)]
-pub struct Shown<'a> {
-    pub name: &'a str,
-    /// Its words when the run has ended.
-    pub words: Vec<u32>,
-    /// Whether they are shown as signed numbers.
-    pub signed: bool,
 }
 
 /// The last line that a call writes, to standard error.
@@ -37,41 +28,49 @@ pub enum LastLine<'a> {
     NoGlobal(&'a str),
 }
 
-/// The ending of a call: its status, the file that it puts, if any, the bytes for standard output,
-/// the variable that it shows after them, if any, and its last line.
+/// The ending of a call that runs nothing: its status, the file that it puts, if any, the bytes for
+/// standard output, and its last line.
 #[derive(Drop)]
-pub struct Ending<'a> {
+pub struct Told<'a> {
     pub status: Status,
     pub put: Option<PutFile<'a>>,
     pub output: Vec<u8>,
-    pub shown: Option<Shown<'a>>,
     pub line: LastLine<'a>,
 }
 
-/// An ending without a file and without output.
-pub fn silent<'a>(alloc: Global, status: Status, report: Report) -> Ending<'a>
-    ensures { outcome_of result ≡ silent status (line_of report) }
+/// The ending of a call.
+#[derive(Drop)]
+pub enum Ending<'a> {
+    /// All of it is known.
+    Told(Told<'a>),
+    /// A machine is to run.
+    Runs(MachineRun<'a>),
+}
+
+// An ending that puts nothing and has no output.
+fn silent_with<'a>(alloc: Global, status: Status, line: LastLine<'a>) -> Ending<'a>
+    ensures { outcome_of result ≡ silent status (last_line line.entry) }
 {
-    Ending {
+    Ending::Told(Told {
         status,
         put: None,
         output: Vec::new(alloc),
-        shown: None,
-        line: LastLine::Reported(report),
-    }
+        line,
+    })
+}
+
+/// An ending with the line of a report, without a file and without output.
+pub fn silent<'a>(alloc: Global, status: Status, report: Report) -> Ending<'a>
+    ensures { outcome_of result ≡ silent status (line_of report) }
+{
+    silent_with(alloc, status, LastLine::Reported(report))
 }
 
 /// The ending where a source has no variable of a name.
 pub fn no_global<'a>(alloc: Global, name: &'a str) -> Ending<'a>
     ensures { outcome_of result ≡ silent Status.Refused (no_global_line name.now) }
 {
-    Ending {
-        status: Status::Refused,
-        put: None,
-        output: Vec::new(alloc),
-        shown: None,
-        line: LastLine::NoGlobal(name),
-    }
+    silent_with(alloc, Status::Refused, LastLine::NoGlobal(name))
 }
 
 /// The ending where a source is refused. Without a line it is no refusal, but there isn't enough
@@ -84,13 +83,7 @@ pub fn refused_source<'a>(
         (λ l. IsOkAnd result (λ e. outcome_of e ≡ silent Status.Refused (last_line l))) }
 {
     match line {
-        Some(line) => Ok(Ending {
-            status: Status::Refused,
-            put: None,
-            output: Vec::new(alloc),
-            shown: None,
-            line,
-        }),
+        Some(line) => Ok(silent_with(alloc, Status::Refused, line)),
         None => Err(AllocError),
     }
 }

@@ -12,18 +12,19 @@ ghost use Rattle.fk_top.specs.Call.{Ends, given_of, request_of};
 
 use crate::bytes::{list_bytes, run_bytes};
 use crate::command::{file_of, most_bytes};
+use crate::elf::{put_elf, put_image};
 use crate::ending::{Ending, silent};
 use crate::input::take_input;
 use crate::report::Report;
-use crate::source::{build_source, run_source};
+use crate::source::{audit_source, build_source, run_source, trace_source};
 use crate::status::Status;
 use fk_ports::{Source, Store, StoreFault};
 use fk_top_words::{CommandWords, WordsFault, read_words};
 use std::alloc::{AllocError, Global};
 
 /// The ending of a call with these words, for a store and an input. It changes nothing in the
-/// store, and gives nothing to any sink. A file or an input that could not be read is an ending
-/// too. It fails only if there isn't enough memory.
+/// store, runs nothing but an audit, and gives nothing to any sink. A file or an input that could
+/// not be read is an ending too. It fails only if there isn't enough memory.
 pub fn find_ending<'a, F: Store, S: Source>(
     alloc: Global,
     words: &'a [String],
@@ -100,5 +101,9 @@ fn command_ending<'a>(
         CommandWords::Build(_, image) => build_source(alloc, bytes, image),
         CommandWords::Exec(run) => run_bytes(alloc, bytes, text, run),
         CommandWords::List(_) => list_bytes(alloc, bytes),
+        CommandWords::Elf(_, file) => put_elf(alloc, bytes, file),
+        CommandWords::Unelf(_, image) => put_image(alloc, bytes, image),
+        CommandWords::Audit(run) => audit_source(alloc, bytes, text, run),
+        CommandWords::Trace(run) => trace_source(alloc, bytes, text, run),
     }
 }

@@ -1,17 +1,21 @@
 //! The commands: from the words of a command line to a status.
 #![tactic(auto)]
 
+mod audit;
 mod bytes;
 mod call;
 mod command;
+mod elf;
 mod ending;
 mod find;
 mod input;
 mod kinds;
 mod line;
+mod machine_run;
 mod refused;
 mod report;
 mod run;
+mod shown;
 mod source;
 mod stand;
 mod status;

@@ -3,11 +3,13 @@
 ghost use Rattle.std.specs.Prelude.{◌≡◌};
 ghost use Rattle.std.specs.Option.{option_map};
 ghost use Rattle.fk_top.specs.Ending.{last_line};
-ghost use Rattle.fk_top.specs.Refused.{image_report_of, input_report_of, refusal_line};
+ghost use Rattle.fk_top.specs.Refused.{elf_report_of, image_report_of, input_report_of};
+ghost use Rattle.fk_top.specs.Refused.{refusal_line};
 
 use crate::ending::LastLine;
 use crate::report::Report;
 use fk_compile_text::Refusal;
+use fk_elf::ElfFault;
 use fk_image::ImageFault;
 use fk_top_input::InputFault;
 
@@ -46,6 +48,20 @@ pub fn image_report_of(fault: ImageFault) -> Option<Report>
         ImageFault::BadTable(entry) => Some(Report::BadTable(entry)),
         ImageFault::BadWord(word) => Some(Report::BadWord(word)),
         ImageFault::Memory(_) => None,
+    }
+}
+
+/// The report of why bytes are the file of no image. `Memory` has none.
+pub fn elf_report_of(fault: ElfFault) -> Option<Report>
+    ensures { result ≡ elf_report_of fault }
+{
+    match fault {
+        ElfFault::ElfHeader(offset) => Some(Report::ElfHeader(offset)),
+        ElfFault::ElfShort(bytes, wanted) => Some(Report::ElfShort(bytes, wanted)),
+        ElfFault::ElfTail(wanted) => Some(Report::ElfTail(wanted)),
+        ElfFault::ElfSizes => Some(Report::ElfSizes),
+        ElfFault::ElfTable(entry) => Some(Report::ElfTable(entry)),
+        ElfFault::Memory(_) => None,
     }
 }
 

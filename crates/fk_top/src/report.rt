@@ -21,6 +21,8 @@ pub enum Report {
     Built(u32),
     /// This many words of code were listed.
     Listed(u32),
+    /// A file of this many bytes was put.
+    Wrote(u32),
     /// The program faulted: the kind and the place of its operation's fault, the processor, and the
     /// number of cycles.
     Fault {
@@ -78,8 +80,18 @@ pub enum Report {
     OutOfRange(u32),
     /// This word of the input is one too many; or, as 0, the input text is too long.
     TooMany(u32),
-    /// The source has a form that isn't built.
+    /// The source has a `fork`, which isn't built.
     NotBuilt,
+    /// This byte of the ELF file isn't that of the headers which its own sizes demand.
+    ElfHeader(u32),
+    /// The ELF file has this many bytes, fewer than it needs, which is the second number.
+    ElfShort(u64, u64),
+    /// Bytes follow the ELF file, which needs this many.
+    ElfTail(u64),
+    /// The numbers of sites and commits don't fit their part of the ELF file.
+    ElfSizes,
+    /// This entry of the ELF file's tables is past its limits.
+    ElfTable(u32),
     /// The words are no command.
     CommandLine,
     /// The file could not be read.
@@ -105,6 +117,7 @@ impl Report {
             Report::Finished(cycles) => counted(b"finished after ", cycles, b" cycles"),
             Report::Built(words) => counted(b"built ", words, b" words"),
             Report::Listed(words) => counted(b"listed ", words, b" words"),
+            Report::Wrote(bytes) => counted(b"wrote ", bytes, b" bytes"),
             Report::Fault {
                 kind,
                 place,
@@ -131,7 +144,7 @@ impl Report {
             Report::SourceTooLong(bytes) => numbered(b"refused 12 SourceTooLong ", bytes),
             Report::Magic => plain(b"refused 13 Magic"),
             Report::Version(version) => numbered(b"refused 14 Version ", u64::from(version)),
-            Report::Short(bytes, wanted) => short_text(bytes, wanted),
+            Report::Short(bytes, wanted) => short_text(b"refused 15 Short ", bytes, wanted),
             Report::LongTail(wanted) => numbered(b"refused 16 LongTail ", wanted),
             Report::BadTable(entry) => numbered(b"refused 17 BadTable ", u64::from(entry)),
             Report::BadWord(word) => numbered(b"refused 18 BadWord ", u64::from(word)),
@@ -139,6 +152,11 @@ impl Report {
             Report::OutOfRange(word) => numbered(b"refused 20 OutOfRange ", u64::from(word)),
             Report::TooMany(word) => numbered(b"refused 21 TooMany ", u64::from(word)),
             Report::NotBuilt => plain(b"refused 22 NotBuilt"),
+            Report::ElfHeader(offset) => numbered(b"refused 27 ElfHeader ", u64::from(offset)),
+            Report::ElfShort(bytes, wanted) => short_text(b"refused 28 ElfShort ", bytes, wanted),
+            Report::ElfTail(wanted) => numbered(b"refused 29 ElfTail ", wanted),
+            Report::ElfSizes => plain(b"refused 30 ElfSizes"),
+            Report::ElfTable(entry) => numbered(b"refused 31 ElfTable ", u64::from(entry)),
             Report::CommandLine => plain(b"refused command line"),
             Report::ReadFault => plain(b"read fault"),
         }
@@ -201,12 +219,13 @@ fn rule_text(place: Place, number: u8) -> Line
     line
 }
 
-// The text of an image of this many bytes, fewer than it needs.
-fn short_text(bytes: u64, wanted: u64) -> Line
-    ensures text { result.items ≡ text_of (reports.Short bytes wanted) }
+// A text followed by the bytes that a file has, and those that it needs, which are more.
+fn short_text(before: &[u8], bytes: u64, wanted: u64) -> Line
+    requires { length before.now ≤ 30 }
+    ensures text { result.items ≡ before.now ++ decimal bytes ++ codes " " ++ decimal wanted }
     ensures short { array_vec_len result ≤ 71 }
 {
-    let mut line = numbered(b"refused 15 Short ", bytes);
+    let mut line = numbered(before, bytes);
     append(&mut line, b" ");
     append_number(&mut line, wanted);
     line

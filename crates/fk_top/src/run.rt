@@ -1,146 +1,116 @@
 //! Whole runs of an image.
 
-ghost use Rattle.std.specs.Prelude.{◌≡◌, ◌≤◌, ◌+◌, ℕ, List, length, vec_len, option_map, IfOk};
+ghost use Rattle.std.specs.Prelude.{◌≡◌, ◌≤◌, ◌+◌, vec_len, option_map, IfOk, OnErr, OnOk};
+ghost use Rattle.std.specs.Io.KnownBytes.{append_known};
 ghost use Rattle.fk_num.specs.Limits.{most_data_words};
+ghost use Rattle.fk_ports.specs.Faults.{HasRisen};
+ghost use Rattle.fk_ports.specs.Known.{TakesPrefix};
 ghost use Rattle.fk_image.specs.Limits.{IsWithinLimits};
-ghost use Rattle.fk_machine.specs.Run.{machine, output_of};
+ghost use Rattle.fk_machine.specs.Run.{after};
 ghost use Rattle.fk_machine.specs.View.{machine_of};
-ghost use Rattle.fk_top.specs.Ending.{outcome_of, variable_of, with_line};
-ghost use Rattle.fk_top.specs.Outcome.{EndsOn, most_numbers, with_shown, words_in};
+ghost use Rattle.fk_top.specs.Ending.{outcome_of, run_text, variable_of, writing_of};
+ghost use Rattle.fk_top.specs.Outcome.{EndsOn, Prints, most_numbers};
 
-use crate::ending::{Ending, LastLine, Shown, refused};
+use crate::ending::{Ending, refused};
+use crate::machine_run::{MachineRun, RunText};
 use crate::refused::input_report_of;
-use crate::stand::{stand_report, status_of};
+use crate::shown::give_shown;
 use crate::status::Status;
 use crate::variable::Variable;
 use fk_image::Image;
 use fk_machine::{Machine, Stand};
 use fk_num::MOST_DATA_WORDS;
+use fk_ports::{Failed, Sink};
 use fk_top_input::read_input;
 use fk_top_words::RunWords;
+use fk_trace::run_trace;
 use std::alloc::{AllocError, Global};
 
-/// The result of a run.
-#[derive(Drop)]
-struct Ran<'a> {
-    /// The bytes that it printed.
-    output: Vec<u8>,
-    /// The variable that is shown after these bytes.
-    shown: Option<Shown<'a>>,
-    /// The status of the machine.
-    stand: Stand,
-    /// The number of cycles that were begun.
-    cycles: u32,
-}
-
-/// The ending of a run of an image on an input text. Fails if there isn't enough memory.
+/// The run of an image on an input text. Fails if there isn't enough memory.
 pub fn run_ending<'a>(
     alloc: Global,
-    image: &Image,
+    image: Image,
     text: &[u8],
     run: RunWords,
-    variable: Option<Variable<'a>>,
+    written: RunText<'a>,
 ) -> Result<Ending<'a>, AllocError>
-    requires limits { IsWithinLimits image.now }
-    ensures { IfOk result (λ e. EndsOn image.now text.now run.entry.harts run.entry.cycles
-        (option_map variable_of variable.entry) (outcome_of e)) }
+    requires limits { IsWithinLimits image }
+    ensures { IfOk result (λ e. EndsOn image text.now run.entry.harts run.entry.cycles
+        (writing_of written.entry) (outcome_of e)) }
 {
     let limit = most_numbers(image.globals.len());
     let input = match read_input(alloc, text, limit) {
         Ok(numbers) => numbers,
         Err(fault) => return refused(alloc, Status::InputRefused, input_report_of(fault)),
     };
-    let ran = run_image(
-        alloc,
+    let machine = Machine::new(alloc, &image, input.as_slice(), run.harts)?;
+    Ok(Ending::Runs(MachineRun {
+        machine,
         image,
-        input.as_slice(),
-        run.harts,
-        run.cycles,
-        variable,
-    )?;
-    Ok(Ending {
-        status: status_of(ran.stand),
-        put: None,
-        output: ran.output,
-        shown: ran.shown,
-        line: LastLine::Reported(stand_report(image, run.cycles, ran.stand, ran.cycles)),
-    })
+        bound: run.cycles,
+        text: written,
+    }))
 }
 
 /// The most numbers of an input text. There are fewer where the globals leave less room: with the
 /// input they have at most 524,288 words.
 const MOST_NUMBERS: usize = 65_536;
 
-// The most numbers of an input beside this many globals.
-fn most_numbers(globals: usize) -> u32
+/// The most numbers of an input beside this many globals.
+pub fn most_numbers(globals: usize) -> u32
     requires { globals ≤ most_data_words }
     ensures { result ≡ most_numbers globals }
 {
     MOST_NUMBERS.min(MOST_DATA_WORDS as usize - globals) as u32
 }
 
-// Runs an image on input numbers, with this many harts, until it ends or the bound on the cycles is
-// reached.
-fn run_image<'a>(
-    alloc: Global,
-    image: &Image,
-    input: &[u32],
-    harts: u32,
+/// Runs a machine of which no cycle was run, until it ends or the bound on the cycles is reached,
+/// and gives what is written of the run. It gives the status of the machine, and takes no memory.
+pub fn give_run<K: Sink>(
+    machine: &mut Machine,
     bound: u32,
-    variable: Option<Variable<'a>>,
-) -> Result<Ran<'a>, AllocError>
-    requires limits { IsWithinLimits image.now }
-    requires some_harts { 1 ≤ harts }
-    requires few_harts { harts ≤ 1024 }
-    requires few_inputs { length input.now ≤ 65536 }
-    requires room { vec_len image.now.globals + length input.now ≤ most_data_words }
-    ensures output { IfOk result (λ ran. with_line ran.output.items ran.shown
-        ≡ with_shown (output_of image.now input.now harts bound)
-        (option_map variable_of variable.entry) (machine image.now input.now harts bound)) }
-    ensures stand { IfOk result
-        (λ ran. ran.stand ≡ (machine image.now input.now harts bound).stand) }
-    ensures cycles { IfOk result
-        (λ ran. ran.cycles ≡ (machine image.now input.now harts bound).begun) }
+    text: RunText,
+    out: &mut K,
+) -> Result<Stand, Failed>
+    requires { (machine_of machine.old).begun ≡ 0 }
+    ensures machine { OnOk result (machine_of machine.new ≡ after bound (machine_of machine.old)) }
+    ensures stand { IfOk result (λ stand. stand ≡ (machine_of machine.new).stand) }
+    ensures all { OnOk result (K.taken out.new ≡ append_known (K.taken out.old)
+        (run_text bound (machine_of machine.old) (writing_of text.entry))) }
+    ensures prefix { OnErr result (TakesPrefix (K.taken out.old) (K.taken out.new)
+        (run_text bound (machine_of machine.old) (writing_of text.entry))) }
+    ensures fault { OnErr result (HasRisen (K.faults out.old) (K.faults out.new)) }
+    ensures steady { OnOk result (K.faults out.new ≡ K.faults out.old) }
 {
-    let mut machine = Machine::new(alloc, image, input, harts)?;
-    let mut output = Vec::new(alloc);
-    machine.run(bound, &mut output)?;
-    Ok(Ran {
-        output,
-        shown: show(alloc, &machine, variable)?,
-        stand: machine.stand(),
-        cycles: machine.cycles(),
-    })
-}
-
-// A variable, with its words in the machine.
-fn show<'a>(
-    alloc: Global,
-    machine: &Machine,
-    variable: Option<Variable<'a>>,
-) -> Result<Option<Shown<'a>>, AllocError>
-    ensures { IfOk result (λ shown. (output : List ℕ)
-        → with_line output shown ≡ with_shown output (option_map variable_of variable.entry)
-        (machine_of machine.now)) }
-{
-    let Some(variable) = variable else {
-        return Ok(None);
-    };
-    Ok(Some(Shown {
-        name: variable.name,
-        words: words_of(alloc, machine, variable)?,
-        signed: variable.signed,
-    }))
-}
-
-// The words of a variable in the machine.
-fn words_of(alloc: Global, machine: &Machine, variable: Variable) -> Result<Vec<u32>, AllocError>
-    ensures { IfOk result
-        (λ words. words.items ≡ words_in (machine_of machine.now) (variable_of variable.entry)) }
-{
-    let mut words = Vec::with_capacity(alloc, variable.words as usize)?;
-    for index in 0..variable.words {
-        words.push(machine.word(variable.first + index))?;
+    match text {
+        RunText::Output(variable) => give_output(machine, bound, variable, out),
+        RunText::Trace => run_trace(machine, bound, out),
     }
-    Ok(words)
+}
+
+// The same for what the program prints, followed by the line of a variable, if one is shown.
+fn give_output<K: Sink>(
+    machine: &mut Machine,
+    bound: u32,
+    variable: Option<Variable>,
+    out: &mut K,
+) -> Result<Stand, Failed>
+    requires { (machine_of machine.old).begun ≡ 0 }
+    ensures machine { OnOk result (machine_of machine.new ≡ after bound (machine_of machine.old)) }
+    ensures stand { IfOk result (λ stand. stand ≡ (machine_of machine.new).stand) }
+    ensures all { OnOk result (K.taken out.new ≡ append_known (K.taken out.old)
+        (run_text bound (machine_of machine.old)
+        (Prints (option_map variable_of variable.entry)))) }
+    ensures prefix { OnErr result (TakesPrefix (K.taken out.old) (K.taken out.new)
+        (run_text bound (machine_of machine.old)
+        (Prints (option_map variable_of variable.entry)))) }
+    ensures fault { OnErr result (HasRisen (K.faults out.old) (K.faults out.new)) }
+    ensures steady { OnOk result (K.faults out.new ≡ K.faults out.old) }
+{
+    let stand = machine.run_to(bound, out)?;
+    let Some(variable) = variable else {
+        return Ok(stand);
+    };
+    give_shown(out, machine, variable)?;
+    Ok(stand)
 }

@@ -5,10 +5,13 @@ ghost use Rattle.fk_image.specs.Limits.{IsWithinLimits};
 ghost use Rattle.fk_layout_globals.specs.View.{row_of};
 ghost use Rattle.fk_compile_text.specs.Text.{HasRows};
 ghost use Rattle.fk_compile.specs.Faithful.{IsFaithful};
-ghost use Rattle.fk_top.specs.Outcome.{LacksGlobal, PutsImage, RefusesSource, RunsSource};
+ghost use Rattle.fk_top.specs.Outcome.{AuditsSource, LacksGlobal, PutsImage, RefusesSource};
+ghost use Rattle.fk_top.specs.Outcome.{RunsSource, TracesSource};
 ghost use Rattle.fk_top.specs.Ending.{outcome_of};
 
-use crate::ending::{Ending, LastLine, PutFile, no_global, refused_source};
+use crate::audit::audit_ending;
+use crate::ending::{Ending, LastLine, PutFile, Told, no_global, refused_source};
+use crate::machine_run::RunText;
 use crate::refused::last_line_of;
 use crate::report::Report;
 use crate::run::run_ending;
@@ -20,8 +23,8 @@ use fk_image::write_image;
 use fk_top_words::RunWords;
 use std::alloc::{AllocError, Global};
 
-/// Compiles a source, runs it on an input text, and shows the variable of a name, if one is given.
-/// Fails if there isn't enough memory.
+/// Compiles a source, to be run on an input text, and to show the variable of a name, if one is
+/// given. Fails if there isn't enough memory.
 pub fn run_source<'a>(
     alloc: Global,
     source: &[u8],
@@ -35,29 +38,29 @@ pub fn run_source<'a>(
         (option_map (λ s. s.now) show.entry) (outcome_of e)) }
 {
     match compile(alloc, source) {
-        Ok(compiled) => run_and_show(alloc, &compiled, text, run, show),
+        Ok(compiled) => run_and_show(alloc, compiled, text, run, show),
         Err(refusal) => refused_source(alloc, last_line_of(refusal)),
     }
 }
 
-// Runs the image of a source, and shows the variable of a name, if one is given.
+// The image of a source is to be run, and to show the variable of a name, if one is given.
 fn run_and_show<'a>(
     alloc: Global,
-    compiled: &Compiled,
+    compiled: Compiled,
     text: &[u8],
     run: RunWords,
     show: Option<&'a str>,
 ) -> Result<Ending<'a>, AllocError>
-    requires limits { IsWithinLimits compiled.now.image }
-    requires rows { (source : List ℕ) × HasRows source (map row_of compiled.now.rows.items) }
-    ensures { (source : List ℕ) → IsFaithful source compiled.now.image
-        → HasRows source (map row_of compiled.now.rows.items)
+    requires limits { IsWithinLimits compiled.image }
+    requires rows { (source : List ℕ) × HasRows source (map row_of compiled.rows.items) }
+    ensures { (source : List ℕ) → IsFaithful source compiled.entry.image
+        → HasRows source (map row_of compiled.entry.rows.items)
         → IfOk result (λ e. LacksGlobal source (option_map (λ s. s.now) show.entry) (outcome_of e)
         ⊎ RunsSource source text.now run.entry.harts run.entry.cycles
         (option_map (λ s. s.now) show.entry) (outcome_of e)) }
 {
     let Some(name) = show else {
-        return run_ending(alloc, &compiled.image, text, run, None);
+        return run_ending(alloc, compiled.image, text, run, RunText::Output(None));
     };
     match find_global(&compiled.rows, name.as_bytes()) {
         Some(row) => {
@@ -67,9 +70,43 @@ fn run_and_show<'a>(
                 words: row.words,
                 signed: row.signed,
             };
-            run_ending(alloc, &compiled.image, text, run, Some(variable))
+            let shown = RunText::Output(Some(variable));
+            run_ending(alloc, compiled.image, text, run, shown)
         }
         None => Ok(no_global(alloc, name)),
+    }
+}
+
+/// Compiles a source, runs it on an input text, and tells which PRAM the run needed. Fails if there
+/// isn't enough memory.
+pub fn audit_source<'a>(
+    alloc: Global,
+    source: &[u8],
+    text: &[u8],
+    run: RunWords,
+) -> Result<Ending<'a>, AllocError>
+    ensures { IfOk result (λ e. RefusesSource source.now (outcome_of e)
+        ⊎ AuditsSource source.now text.now run.entry.harts run.entry.cycles (outcome_of e)) }
+{
+    match compile(alloc, source) {
+        Ok(compiled) => audit_ending(alloc, &compiled.image, text, run),
+        Err(refusal) => refused_source(alloc, last_line_of(refusal)),
+    }
+}
+
+/// Compiles a source, to be run on an input text and traced. Fails if there isn't enough memory.
+pub fn trace_source<'a>(
+    alloc: Global,
+    source: &[u8],
+    text: &[u8],
+    run: RunWords,
+) -> Result<Ending<'a>, AllocError>
+    ensures { IfOk result (λ e. RefusesSource source.now (outcome_of e)
+        ⊎ TracesSource source.now text.now run.entry.harts run.entry.cycles (outcome_of e)) }
+{
+    match compile(alloc, source) {
+        Ok(compiled) => run_ending(alloc, compiled.image, text, run, RunText::Trace),
+        Err(refusal) => refused_source(alloc, last_line_of(refusal)),
     }
 }
 
@@ -86,13 +123,12 @@ pub fn build_source<'a>(
         Ok(compiled) => {
             let image = compiled.image;
             let bytes = write_image(alloc, &image)?;
-            Ok(Ending {
+            Ok(Ending::Told(Told {
                 status: Status::Done,
                 put: Some(PutFile { name, bytes }),
                 output: Vec::new(alloc),
-                shown: None,
                 line: LastLine::Reported(Report::Built(image.code.len() as u32)),
-            })
+            }))
         }
         Err(refusal) => refused_source(alloc, last_line_of(refusal)),
     }

@@ -25,13 +25,15 @@ pub enum Status {
     ImageRefused,
     /// The input is refused.
     InputRefused,
+    /// The ELF file is refused.
+    ElfRefused,
 }
 
 impl Status {
     ghost use Rattle.std.specs.Prelude.{◌≡◌};
     ghost use Rattle.fk_top.specs.Status.{code_of};
 
-    /// The exit status: 0 to 10 in the order above.
+    /// The exit status: 0 to 10 in the order above, and 12.
     pub fn code(&self) -> u8
         ensures { result ≡ code_of self.now }
     {
@@ -47,6 +49,7 @@ impl Status {
             Status::Trap => 8,
             Status::ImageRefused => 9,
             Status::InputRefused => 10,
+            Status::ElfRefused => 12,
         }
     }
 }

@@ -8,7 +8,7 @@ use Rattle.clap.specs.Kinds.{Kinds, or_else}
 use Rattle.clap.specs.Faults.{check_fault, entered_fault, settle_fault, defaults_fault, fault_of, flags_fault, turn_fault, walk_fault}
 use Rattle.clap.specs.Simple.{Shape, entered, label_of, names_of, subcommand_of}
 use Rattle.fk_top_words.specs.Arguments.{Text, Part}
-use Rattle.fk_top_words.specs.Written.{run_parts, build_parts, exec_parts, list_parts, written_app}
+use Rattle.fk_top_words.specs.Written.{run_parts, put_parts, exec_parts, list_parts, written_app}
 use Rattle.fk_top_words.proofs.Rules.{app, command}
 use Rattle.fk_top_words.proofs.Given.{at, first_empty}
 use Rattle.fk_top_words.proofs.Forms.{Form, dashes, form, long, plain, short}
@@ -87,14 +87,26 @@ module _ (name : Text) (ps : List Part) (is : IsNamed name ps) (words : List Tex
 pub behind_run : (words : List Text) → Behind (codes "run") run_parts words
 behind_run words = behind (codes "run") run_parts (record { labelled = refl; entered = refl; no_help = refl }) words
 
-pub behind_build : (words : List Text) → Behind (codes "build") build_parts words
-behind_build words = behind (codes "build") build_parts (record { labelled = refl; entered = refl; no_help = refl }) words
+pub behind_build : (words : List Text) → Behind (codes "build") put_parts words
+behind_build words = behind (codes "build") put_parts (record { labelled = refl; entered = refl; no_help = refl }) words
 
 pub behind_exec : (words : List Text) → Behind (codes "exec") exec_parts words
 behind_exec words = behind (codes "exec") exec_parts (record { labelled = refl; entered = refl; no_help = refl }) words
 
 pub behind_list : (words : List Text) → Behind (codes "list") list_parts words
 behind_list words = behind (codes "list") list_parts (record { labelled = refl; entered = refl; no_help = refl }) words
+
+pub behind_elf : (words : List Text) → Behind (codes "elf") put_parts words
+behind_elf words = behind (codes "elf") put_parts (record { labelled = refl; entered = refl; no_help = refl }) words
+
+pub behind_unelf : (words : List Text) → Behind (codes "unelf") put_parts words
+behind_unelf words = behind (codes "unelf") put_parts (record { labelled = refl; entered = refl; no_help = refl }) words
+
+pub behind_audit : (words : List Text) → Behind (codes "audit") exec_parts words
+behind_audit words = behind (codes "audit") exec_parts (record { labelled = refl; entered = refl; no_help = refl }) words
+
+pub behind_trace : (words : List Text) → Behind (codes "trace") exec_parts words
+behind_trace words = behind (codes "trace") exec_parts (record { labelled = refl; entered = refl; no_help = refl }) words
 
 -- ---- other first words
 
@@ -108,17 +120,26 @@ pub data Named (word : Text) : Type 0 where
   is_build : word ≡ codes "build" → Named word
   is_exec : word ≡ codes "exec" → Named word
   is_list : word ≡ codes "list" → Named word
+  is_elf : word ≡ codes "elf" → Named word
+  is_unelf : word ≡ codes "unelf" → Named word
+  is_audit : word ≡ codes "audit" → Named word
+  is_trace : word ≡ codes "trace" → Named word
   other : find (answers_to word) (names_of app) ≡ None → Named word
 
 pub named : (word : Text) → Named word
-named word = by (bytes_eq (codes "run") word) (bytes_eq (codes "build") word) (bytes_eq (codes "exec") word) (bytes_eq (codes "list") word) refl refl refl refl
+named word =
+    by (bytes_eq (codes "run") word) (bytes_eq (codes "build") word) (bytes_eq (codes "exec") word) (bytes_eq (codes "list") word) (bytes_eq (codes "elf") word) (bytes_eq (codes "unelf") word) (bytes_eq (codes "audit") word) (bytes_eq (codes "trace") word) refl refl refl refl refl refl refl refl
   where
-    by : (a b c d : Bool) → bytes_eq (codes "run") word ≡ a → bytes_eq (codes "build") word ≡ b → bytes_eq (codes "exec") word ≡ c → bytes_eq (codes "list") word ≡ d → Named word
-    by true b c d e f g h = is_run (sym (same_text (codes "run") word e))
-    by false true c d e f g h = is_build (sym (same_text (codes "build") word f))
-    by false false true d e f g h = is_exec (sym (same_text (codes "exec") word g))
-    by false false false true e f g h = is_list (sym (same_text (codes "list") word h))
-    by false false false false e f g h = other (rw (e, f, g, h) refl)
+    by : (a b c d e f g h : Bool) → bytes_eq (codes "run") word ≡ a → bytes_eq (codes "build") word ≡ b → bytes_eq (codes "exec") word ≡ c → bytes_eq (codes "list") word ≡ d → bytes_eq (codes "elf") word ≡ e → bytes_eq (codes "unelf") word ≡ f → bytes_eq (codes "audit") word ≡ g → bytes_eq (codes "trace") word ≡ h → Named word
+    by true b c d e f g h p q r s t u v w = is_run (sym (same_text (codes "run") word p))
+    by false true c d e f g h p q r s t u v w = is_build (sym (same_text (codes "build") word q))
+    by false false true d e f g h p q r s t u v w = is_exec (sym (same_text (codes "exec") word r))
+    by false false false true e f g h p q r s t u v w = is_list (sym (same_text (codes "list") word s))
+    by false false false false true f g h p q r s t u v w = is_elf (sym (same_text (codes "elf") word t))
+    by false false false false false true g h p q r s t u v w = is_unelf (sym (same_text (codes "unelf") word u))
+    by false false false false false false true h p q r s t u v w = is_audit (sym (same_text (codes "audit") word v))
+    by false false false false false false false true p q r s t u v w = is_trace (sym (same_text (codes "trace") word w))
+    by false false false false false false false false p q r s t u v w = other (rw (p, q, r, s, t, u, v, w) refl)
 
 module _ (word : Text) (words : List Text) (none : find (answers_to word) (names_of app) ≡ None) where
   turn_other : Form word → (word ≡ 45 ∷ 45 ∷ [] → ⊥) → turn_fault app.top (names_of app) (walk_from nothing_held) word ≡ [] → ⊥

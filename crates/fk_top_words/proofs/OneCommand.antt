@@ -4,7 +4,7 @@ use Rattle.std.specs.Str.{bytes_eq}
 use Rattle.clap.specs.Walk.{Row}
 use Rattle.fk_top_words.specs.Arguments.{Text}
 use Rattle.fk_top_words.specs.Asked.{AsksFor, AsksOf}
-use Rattle.fk_top_words.specs.Command.{Command, Run, Build, Exec, ListCode, OneCommand}
+use Rattle.fk_top_words.specs.Command.{Command, Run, Build, Exec, ListCode, Elf, Unelf, Audit, Trace, OneCommand}
 use Rattle.fk_top_words.proofs.Whole.{asked, differ}
 
 -- a name is that of one command
@@ -27,21 +27,83 @@ same_asked name rows (Exec file harts cycles) (Exec file' harts' cycles') asks o
     let h : Some harts ≡ Some harts' = sym asks.2.harts_are ∙ other.2.harts_are in
     let n : Some cycles ≡ Some cycles' = sym asks.2.cycles_are ∙ other.2.cycles_are in
     cc
+same_asked name rows (Audit file harts cycles) (Audit file' harts' cycles') asks other =
+    let f : Some file ≡ Some file' = sym asks.1 ∙ other.1 in
+    let h : Some harts ≡ Some harts' = sym asks.2.harts_are ∙ other.2.harts_are in
+    let n : Some cycles ≡ Some cycles' = sym asks.2.cycles_are ∙ other.2.cycles_are in
+    cc
+same_asked name rows (Trace file harts cycles) (Trace file' harts' cycles') asks other =
+    let f : Some file ≡ Some file' = sym asks.1 ∙ other.1 in
+    let h : Some harts ≡ Some harts' = sym asks.2.harts_are ∙ other.2.harts_are in
+    let n : Some cycles ≡ Some cycles' = sym asks.2.cycles_are ∙ other.2.cycles_are in
+    cc
 same_asked name rows (ListCode image) (ListCode image') asks other =
     let f : Some image ≡ Some image' = sym asks.1 ∙ other.1 in
+    cc
+same_asked name rows (Elf image file) (Elf image' file') asks other =
+    let i : Some image ≡ Some image' = sym asks.1 ∙ other.1 in
+    let f : Some file ≡ Some file' = sym asks.2 ∙ other.2 in
+    cc
+same_asked name rows (Unelf file image) (Unelf file' image') asks other =
+    let f : Some file ≡ Some file' = sym asks.1 ∙ other.1 in
+    let i : Some image ≡ Some image' = sym asks.2 ∙ other.2 in
     cc
 same_asked name rows (Run file harts cycles show) (Build file' image') asks other = apart name (codes "run") (codes "build") refl asks.0 other.0
 same_asked name rows (Run file harts cycles show) (Exec image' harts' cycles') asks other = apart name (codes "run") (codes "exec") refl asks.0 other.0
 same_asked name rows (Run file harts cycles show) (ListCode image') asks other = apart name (codes "run") (codes "list") refl asks.0 other.0
+same_asked name rows (Run file harts cycles show) (Elf image' file') asks other = apart name (codes "run") (codes "elf") refl asks.0 other.0
+same_asked name rows (Run file harts cycles show) (Unelf file' image') asks other = apart name (codes "run") (codes "unelf") refl asks.0 other.0
 same_asked name rows (Build file image) (Run file' harts' cycles' show') asks other = apart name (codes "build") (codes "run") refl asks.0 other.0
 same_asked name rows (Build file image) (Exec image' harts' cycles') asks other = apart name (codes "build") (codes "exec") refl asks.0 other.0
 same_asked name rows (Build file image) (ListCode image') asks other = apart name (codes "build") (codes "list") refl asks.0 other.0
+same_asked name rows (Build file image) (Elf image' file') asks other = apart name (codes "build") (codes "elf") refl asks.0 other.0
+same_asked name rows (Build file image) (Unelf file' image') asks other = apart name (codes "build") (codes "unelf") refl asks.0 other.0
 same_asked name rows (Exec image harts cycles) (Run file' harts' cycles' show') asks other = apart name (codes "exec") (codes "run") refl asks.0 other.0
 same_asked name rows (Exec image harts cycles) (Build file' image') asks other = apart name (codes "exec") (codes "build") refl asks.0 other.0
 same_asked name rows (Exec image harts cycles) (ListCode image') asks other = apart name (codes "exec") (codes "list") refl asks.0 other.0
+same_asked name rows (Exec image harts cycles) (Elf image' file') asks other = apart name (codes "exec") (codes "elf") refl asks.0 other.0
+same_asked name rows (Exec image harts cycles) (Unelf file' image') asks other = apart name (codes "exec") (codes "unelf") refl asks.0 other.0
 same_asked name rows (ListCode image) (Run file' harts' cycles' show') asks other = apart name (codes "list") (codes "run") refl asks.0 other.0
 same_asked name rows (ListCode image) (Build file' image') asks other = apart name (codes "list") (codes "build") refl asks.0 other.0
 same_asked name rows (ListCode image) (Exec image' harts' cycles') asks other = apart name (codes "list") (codes "exec") refl asks.0 other.0
+same_asked name rows (ListCode image) (Elf image' file') asks other = apart name (codes "list") (codes "elf") refl asks.0 other.0
+same_asked name rows (ListCode image) (Unelf file' image') asks other = apart name (codes "list") (codes "unelf") refl asks.0 other.0
+same_asked name rows (Elf image file) (Run file' harts' cycles' show') asks other = apart name (codes "elf") (codes "run") refl asks.0 other.0
+same_asked name rows (Elf image file) (Build file' image') asks other = apart name (codes "elf") (codes "build") refl asks.0 other.0
+same_asked name rows (Elf image file) (Exec image' harts' cycles') asks other = apart name (codes "elf") (codes "exec") refl asks.0 other.0
+same_asked name rows (Elf image file) (ListCode image') asks other = apart name (codes "elf") (codes "list") refl asks.0 other.0
+same_asked name rows (Elf image file) (Unelf file' image') asks other = apart name (codes "elf") (codes "unelf") refl asks.0 other.0
+same_asked name rows (Unelf file image) (Run file' harts' cycles' show') asks other = apart name (codes "unelf") (codes "run") refl asks.0 other.0
+same_asked name rows (Unelf file image) (Build file' image') asks other = apart name (codes "unelf") (codes "build") refl asks.0 other.0
+same_asked name rows (Unelf file image) (Exec image' harts' cycles') asks other = apart name (codes "unelf") (codes "exec") refl asks.0 other.0
+same_asked name rows (Unelf file image) (ListCode image') asks other = apart name (codes "unelf") (codes "list") refl asks.0 other.0
+same_asked name rows (Unelf file image) (Elf image' file') asks other = apart name (codes "unelf") (codes "elf") refl asks.0 other.0
+same_asked name rows (Run file harts cycles show) (Audit file' harts' cycles') asks other = apart name (codes "run") (codes "audit") refl asks.0 other.0
+same_asked name rows (Run file harts cycles show) (Trace file' harts' cycles') asks other = apart name (codes "run") (codes "trace") refl asks.0 other.0
+same_asked name rows (Build file image) (Audit file' harts' cycles') asks other = apart name (codes "build") (codes "audit") refl asks.0 other.0
+same_asked name rows (Build file image) (Trace file' harts' cycles') asks other = apart name (codes "build") (codes "trace") refl asks.0 other.0
+same_asked name rows (Exec image harts cycles) (Audit file' harts' cycles') asks other = apart name (codes "exec") (codes "audit") refl asks.0 other.0
+same_asked name rows (Exec image harts cycles) (Trace file' harts' cycles') asks other = apart name (codes "exec") (codes "trace") refl asks.0 other.0
+same_asked name rows (ListCode image) (Audit file' harts' cycles') asks other = apart name (codes "list") (codes "audit") refl asks.0 other.0
+same_asked name rows (ListCode image) (Trace file' harts' cycles') asks other = apart name (codes "list") (codes "trace") refl asks.0 other.0
+same_asked name rows (Audit file harts cycles) (Run file' harts' cycles' show') asks other = apart name (codes "audit") (codes "run") refl asks.0 other.0
+same_asked name rows (Trace file harts cycles) (Run file' harts' cycles' show') asks other = apart name (codes "trace") (codes "run") refl asks.0 other.0
+same_asked name rows (Audit file harts cycles) (Build file' image') asks other = apart name (codes "audit") (codes "build") refl asks.0 other.0
+same_asked name rows (Trace file harts cycles) (Build file' image') asks other = apart name (codes "trace") (codes "build") refl asks.0 other.0
+same_asked name rows (Audit file harts cycles) (Exec image' harts' cycles') asks other = apart name (codes "audit") (codes "exec") refl asks.0 other.0
+same_asked name rows (Trace file harts cycles) (Exec image' harts' cycles') asks other = apart name (codes "trace") (codes "exec") refl asks.0 other.0
+same_asked name rows (Audit file harts cycles) (ListCode image') asks other = apart name (codes "audit") (codes "list") refl asks.0 other.0
+same_asked name rows (Trace file harts cycles) (ListCode image') asks other = apart name (codes "trace") (codes "list") refl asks.0 other.0
+same_asked name rows (Elf image file) (Audit file' harts' cycles') asks other = apart name (codes "elf") (codes "audit") refl asks.0 other.0
+same_asked name rows (Elf image file) (Trace file' harts' cycles') asks other = apart name (codes "elf") (codes "trace") refl asks.0 other.0
+same_asked name rows (Unelf file image) (Audit file' harts' cycles') asks other = apart name (codes "unelf") (codes "audit") refl asks.0 other.0
+same_asked name rows (Unelf file image) (Trace file' harts' cycles') asks other = apart name (codes "unelf") (codes "trace") refl asks.0 other.0
+same_asked name rows (Audit file harts cycles) (Elf image' file') asks other = apart name (codes "audit") (codes "elf") refl asks.0 other.0
+same_asked name rows (Trace file harts cycles) (Elf image' file') asks other = apart name (codes "trace") (codes "elf") refl asks.0 other.0
+same_asked name rows (Audit file harts cycles) (Unelf file' image') asks other = apart name (codes "audit") (codes "unelf") refl asks.0 other.0
+same_asked name rows (Trace file harts cycles) (Unelf file' image') asks other = apart name (codes "trace") (codes "unelf") refl asks.0 other.0
+same_asked name rows (Audit file harts cycles) (Trace file' harts' cycles') asks other = apart name (codes "audit") (codes "trace") refl asks.0 other.0
+same_asked name rows (Trace file harts cycles) (Audit file' harts' cycles') asks other = apart name (codes "trace") (codes "audit") refl asks.0 other.0
 
 pub one_command : OneCommand
 one_command words c d reads other =

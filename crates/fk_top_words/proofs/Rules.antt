@@ -5,7 +5,7 @@ use Rattle.std.specs.List.{list_any}
 use Rattle.clap.specs.declared.builder.value_parser.ValueParser.TheVariants as parser
 use Rattle.clap.specs.Walk.{Rule, arg_by_id, arg_by_index, arg_by_long, arg_by_short}
 use Rattle.clap.specs.Simple.{App, Shape, new_shape, built}
-use Rattle.fk_top_words.specs.Written.{id_of, long_of_part, written, run_parts, build_parts, exec_parts, list_parts, written_top, written_app}
+use Rattle.fk_top_words.specs.Written.{id_of, long_of_part, written, run_parts, put_parts, exec_parts, list_parts, written_top, written_app}
 use Rattle.fk_top_words.specs.Arguments.{Text, Part, File, Harts, Cycles, Show, Image, is_part}
 
 abbrev pub index_of : Part → Option ℕ
@@ -36,8 +36,10 @@ command name ps = record (new_shape name) {
 abbrev pub app : App
 app = record {
   top = record written_top { is_leaf = false; is_built = true };
-  subs = command (codes "run") run_parts ∷ command (codes "build") build_parts
-      ∷ command (codes "exec") exec_parts ∷ command (codes "list") list_parts ∷ [];
+  subs = command (codes "run") run_parts ∷ command (codes "build") put_parts
+      ∷ command (codes "exec") exec_parts ∷ command (codes "list") list_parts
+      ∷ command (codes "elf") put_parts ∷ command (codes "unelf") put_parts
+      ∷ command (codes "audit") exec_parts ∷ command (codes "trace") exec_parts ∷ [];
 }
 
 pub built-written : built written_app ≡ app
@@ -77,22 +79,22 @@ run_by_long Image e = cc
 pub run_command : IsCommand run_parts
 run_command = record { by_id = run_by_id; by_long = run_by_long; by_short = λ e. cc; first = refl; second = refl; file = refl }
 
-build_by_id : (p : Part) → is_in p build_parts ≡ true → arg_by_id (rules build_parts) (id_of p) ≡ Some (rule p)
-build_by_id File e = refl
-build_by_id Harts e = cc
-build_by_id Cycles e = cc
-build_by_id Show e = cc
-build_by_id Image e = refl
+put_by_id : (p : Part) → is_in p put_parts ≡ true → arg_by_id (rules put_parts) (id_of p) ≡ Some (rule p)
+put_by_id File e = refl
+put_by_id Harts e = cc
+put_by_id Cycles e = cc
+put_by_id Show e = cc
+put_by_id Image e = refl
 
-build_by_long : (p : Part) → is_in p build_parts ≡ true → FindsLong build_parts p
-build_by_long File e = tt
-build_by_long Harts e = cc
-build_by_long Cycles e = cc
-build_by_long Show e = cc
-build_by_long Image e = tt
+put_by_long : (p : Part) → is_in p put_parts ≡ true → FindsLong put_parts p
+put_by_long File e = tt
+put_by_long Harts e = cc
+put_by_long Cycles e = cc
+put_by_long Show e = cc
+put_by_long Image e = tt
 
-pub build_command : IsCommand build_parts
-build_command = record { by_id = build_by_id; by_long = build_by_long; by_short = λ e. refl; first = refl; second = refl; file = refl }
+pub put_command : IsCommand put_parts
+put_command = record { by_id = put_by_id; by_long = put_by_long; by_short = λ e. refl; first = refl; second = refl; file = refl }
 
 exec_by_id : (p : Part) → is_in p exec_parts ≡ true → arg_by_id (rules exec_parts) (id_of p) ≡ Some (rule p)
 exec_by_id File e = refl

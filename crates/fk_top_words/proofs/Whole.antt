@@ -14,13 +14,13 @@ use Rattle.std.proofs.lemmas.Str.{IsUtf8-string_bytes}
 use Rattle.clap.specs.Simple.{App, is_simple, subcommand_of}
 use Rattle.fk_top_words.specs.Arguments.{Text, Part, File, Harts, Cycles, Show, Image, Argument, Values, Gives, Spells, all_values, values_of}
 use Rattle.fk_top_words.specs.Asked.{AsksFor, AsksOf, RunsBy, number_of}
-use Rattle.fk_top_words.specs.Command.{Command, Run, Build, Exec, ListCode, Reads, ReadsRun, ReadsBehind, once_or_never, only_file}
-use Rattle.fk_top_words.specs.Written.{id_of, run_parts, build_parts, exec_parts, list_parts, written_app}
-use Rattle.fk_top_words.proofs.Rules.{IsCommand, build_command, exec_command, is_in, list_command, run_command}
+use Rattle.fk_top_words.specs.Command.{Command, Run, Build, Exec, ListCode, Elf, Unelf, Audit, Trace, Reads, ReadsRun, ReadsBehind, once_or_never, only_file, two_files}
+use Rattle.fk_top_words.specs.Written.{id_of, run_parts, put_parts, exec_parts, list_parts, written_app}
+use Rattle.fk_top_words.proofs.Rules.{IsCommand, exec_command, is_in, list_command, put_command, run_command}
 use Rattle.fk_top_words.proofs.Given.{IsOnce, at, first-rows, given, lacks, no_values, rows, some_values}
 use Rattle.fk_top_words.proofs.Taken.{Adds, AreIn, AreTexts, rows_at_end, sound}
 use Rattle.fk_top_words.proofs.Spelled.{gets}
-use Rattle.fk_top_words.proofs.Lines.{Behind, Named, is_run, is_build, is_exec, is_list, other, named, behind_run, behind_build, behind_exec, behind_list, no_words, other_word}
+use Rattle.fk_top_words.proofs.Lines.{Behind, Named, is_run, is_build, is_exec, is_list, is_elf, is_unelf, is_audit, is_trace, other, named, behind_run, behind_build, behind_exec, behind_list, behind_elf, behind_unelf, behind_audit, behind_trace, no_words, other_word}
 
 pub differ : (a b : Text) → bytes_eq a b ≡ false → a ≡ b → ⊥
 differ a b e same = let t = (bytes_eq-Decides a b).1 same in let bad : true ≡ false = sym t ∙ e in cc
@@ -95,14 +95,14 @@ reads_exec words end adds file harts cycles file_is asks =
       few_harts = asks.few_harts;
     }
 
-reads_build : (words : List Text) (end : List Row) (adds : Adds build_parts [] false words end) (file image : Text)
-    → first_of (codes "file") end ≡ Some file → first_of (codes "image") end ≡ Some image → Gives words (record (only_file file) { image = image ∷ [] })
-reads_build words end adds file image file_is image_is =
-    let f = value-is build_parts words end adds File (Some file) file_is in
-    let h = outside-is build_parts words end adds Harts refl in
-    let c = outside-is build_parts words end adds Cycles refl in
-    let s = outside-is build_parts words end adds Show refl in
-    let i = value-is build_parts words end adds Image (Some image) image_is in
+reads_put : (words : List Text) (end : List Row) (adds : Adds put_parts [] false words end) (file image : Text)
+    → first_of (codes "file") end ≡ Some file → first_of (codes "image") end ≡ Some image → Gives words (two_files file image)
+reads_put words end adds file image file_is image_is =
+    let f = value-is put_parts words end adds File (Some file) file_is in
+    let h = outside-is put_parts words end adds Harts refl in
+    let c = outside-is put_parts words end adds Cycles refl in
+    let s = outside-is put_parts words end adds Show refl in
+    let i = value-is put_parts words end adds Image (Some image) image_is in
     record { arguments = adds.arguments; spelled = adds.spelled; values_are = rw (f, h, c, s, i) refl }
 
 reads_list : (words : List Text) (end : List Row) (adds : Adds list_parts [] false words end) (image : Text)
@@ -130,24 +130,80 @@ asked_run words end adds (Run file harts cycles show) asks = (refl, reads_run wo
 asked_run words end adds (Build file image) asks = absurd (differ (codes "run") (codes "build") refl asks.0)
 asked_run words end adds (Exec image harts cycles) asks = absurd (differ (codes "run") (codes "exec") refl asks.0)
 asked_run words end adds (ListCode image) asks = absurd (differ (codes "run") (codes "list") refl asks.0)
+asked_run words end adds (Elf image file) asks = absurd (differ (codes "run") (codes "elf") refl asks.0)
+asked_run words end adds (Unelf file image) asks = absurd (differ (codes "run") (codes "unelf") refl asks.0)
+asked_run words end adds (Audit file harts cycles) asks = absurd (differ (codes "run") (codes "audit") refl asks.0)
+asked_run words end adds (Trace file harts cycles) asks = absurd (differ (codes "run") (codes "trace") refl asks.0)
 
-asked_build : (words : List Text) (end : List Row) → Adds build_parts [] false words end → (command : Command) → AsksFor (codes "build") end command → ReadsBehind (codes "build") words command
+asked_build : (words : List Text) (end : List Row) → Adds put_parts [] false words end → (command : Command) → AsksFor (codes "build") end command → ReadsBehind (codes "build") words command
 asked_build words end adds (Run file harts cycles show) asks = absurd (differ (codes "build") (codes "run") refl asks.0)
-asked_build words end adds (Build file image) asks = (refl, reads_build words end adds file image asks.1 asks.2)
+asked_build words end adds (Build file image) asks = (refl, reads_put words end adds file image asks.1 asks.2)
 asked_build words end adds (Exec image harts cycles) asks = absurd (differ (codes "build") (codes "exec") refl asks.0)
 asked_build words end adds (ListCode image) asks = absurd (differ (codes "build") (codes "list") refl asks.0)
+asked_build words end adds (Elf image file) asks = absurd (differ (codes "build") (codes "elf") refl asks.0)
+asked_build words end adds (Unelf file image) asks = absurd (differ (codes "build") (codes "unelf") refl asks.0)
+asked_build words end adds (Audit file harts cycles) asks = absurd (differ (codes "build") (codes "audit") refl asks.0)
+asked_build words end adds (Trace file harts cycles) asks = absurd (differ (codes "build") (codes "trace") refl asks.0)
 
 asked_exec : (words : List Text) (end : List Row) → Adds exec_parts [] false words end → (command : Command) → AsksFor (codes "exec") end command → ReadsBehind (codes "exec") words command
 asked_exec words end adds (Run file harts cycles show) asks = absurd (differ (codes "exec") (codes "run") refl asks.0)
 asked_exec words end adds (Build file image) asks = absurd (differ (codes "exec") (codes "build") refl asks.0)
 asked_exec words end adds (Exec image harts cycles) asks = (refl, reads_exec words end adds image harts cycles asks.1 asks.2)
 asked_exec words end adds (ListCode image) asks = absurd (differ (codes "exec") (codes "list") refl asks.0)
+asked_exec words end adds (Elf image file) asks = absurd (differ (codes "exec") (codes "elf") refl asks.0)
+asked_exec words end adds (Unelf file image) asks = absurd (differ (codes "exec") (codes "unelf") refl asks.0)
+asked_exec words end adds (Audit file harts cycles) asks = absurd (differ (codes "exec") (codes "audit") refl asks.0)
+asked_exec words end adds (Trace file harts cycles) asks = absurd (differ (codes "exec") (codes "trace") refl asks.0)
 
 asked_list : (words : List Text) (end : List Row) → Adds list_parts [] false words end → (command : Command) → AsksFor (codes "list") end command → ReadsBehind (codes "list") words command
 asked_list words end adds (Run file harts cycles show) asks = absurd (differ (codes "list") (codes "run") refl asks.0)
 asked_list words end adds (Build file image) asks = absurd (differ (codes "list") (codes "build") refl asks.0)
 asked_list words end adds (Exec image harts cycles) asks = absurd (differ (codes "list") (codes "exec") refl asks.0)
 asked_list words end adds (ListCode image) asks = (refl, reads_list words end adds image asks.1)
+asked_list words end adds (Elf image file) asks = absurd (differ (codes "list") (codes "elf") refl asks.0)
+asked_list words end adds (Unelf file image) asks = absurd (differ (codes "list") (codes "unelf") refl asks.0)
+asked_list words end adds (Audit file harts cycles) asks = absurd (differ (codes "list") (codes "audit") refl asks.0)
+asked_list words end adds (Trace file harts cycles) asks = absurd (differ (codes "list") (codes "trace") refl asks.0)
+
+asked_elf : (words : List Text) (end : List Row) → Adds put_parts [] false words end → (command : Command) → AsksFor (codes "elf") end command → ReadsBehind (codes "elf") words command
+asked_elf words end adds (Run file harts cycles show) asks = absurd (differ (codes "elf") (codes "run") refl asks.0)
+asked_elf words end adds (Build file image) asks = absurd (differ (codes "elf") (codes "build") refl asks.0)
+asked_elf words end adds (Exec image harts cycles) asks = absurd (differ (codes "elf") (codes "exec") refl asks.0)
+asked_elf words end adds (ListCode image) asks = absurd (differ (codes "elf") (codes "list") refl asks.0)
+asked_elf words end adds (Elf image file) asks = (refl, reads_put words end adds image file asks.1 asks.2)
+asked_elf words end adds (Unelf file image) asks = absurd (differ (codes "elf") (codes "unelf") refl asks.0)
+asked_elf words end adds (Audit file harts cycles) asks = absurd (differ (codes "elf") (codes "audit") refl asks.0)
+asked_elf words end adds (Trace file harts cycles) asks = absurd (differ (codes "elf") (codes "trace") refl asks.0)
+
+asked_unelf : (words : List Text) (end : List Row) → Adds put_parts [] false words end → (command : Command) → AsksFor (codes "unelf") end command → ReadsBehind (codes "unelf") words command
+asked_unelf words end adds (Run file harts cycles show) asks = absurd (differ (codes "unelf") (codes "run") refl asks.0)
+asked_unelf words end adds (Build file image) asks = absurd (differ (codes "unelf") (codes "build") refl asks.0)
+asked_unelf words end adds (Exec image harts cycles) asks = absurd (differ (codes "unelf") (codes "exec") refl asks.0)
+asked_unelf words end adds (ListCode image) asks = absurd (differ (codes "unelf") (codes "list") refl asks.0)
+asked_unelf words end adds (Elf image file) asks = absurd (differ (codes "unelf") (codes "elf") refl asks.0)
+asked_unelf words end adds (Unelf file image) asks = (refl, reads_put words end adds file image asks.1 asks.2)
+asked_unelf words end adds (Audit file harts cycles) asks = absurd (differ (codes "unelf") (codes "audit") refl asks.0)
+asked_unelf words end adds (Trace file harts cycles) asks = absurd (differ (codes "unelf") (codes "trace") refl asks.0)
+
+asked_audit : (words : List Text) (end : List Row) → Adds exec_parts [] false words end → (command : Command) → AsksFor (codes "audit") end command → ReadsBehind (codes "audit") words command
+asked_audit words end adds (Run file harts cycles show) asks = absurd (differ (codes "audit") (codes "run") refl asks.0)
+asked_audit words end adds (Build file image) asks = absurd (differ (codes "audit") (codes "build") refl asks.0)
+asked_audit words end adds (Exec image harts cycles) asks = absurd (differ (codes "audit") (codes "exec") refl asks.0)
+asked_audit words end adds (ListCode image) asks = absurd (differ (codes "audit") (codes "list") refl asks.0)
+asked_audit words end adds (Elf image file) asks = absurd (differ (codes "audit") (codes "elf") refl asks.0)
+asked_audit words end adds (Unelf file image) asks = absurd (differ (codes "audit") (codes "unelf") refl asks.0)
+asked_audit words end adds (Audit file harts cycles) asks = (refl, reads_exec words end adds file harts cycles asks.1 asks.2)
+asked_audit words end adds (Trace file harts cycles) asks = absurd (differ (codes "audit") (codes "trace") refl asks.0)
+
+asked_trace : (words : List Text) (end : List Row) → Adds exec_parts [] false words end → (command : Command) → AsksFor (codes "trace") end command → ReadsBehind (codes "trace") words command
+asked_trace words end adds (Run file harts cycles show) asks = absurd (differ (codes "trace") (codes "run") refl asks.0)
+asked_trace words end adds (Build file image) asks = absurd (differ (codes "trace") (codes "build") refl asks.0)
+asked_trace words end adds (Exec image harts cycles) asks = absurd (differ (codes "trace") (codes "exec") refl asks.0)
+asked_trace words end adds (ListCode image) asks = absurd (differ (codes "trace") (codes "list") refl asks.0)
+asked_trace words end adds (Elf image file) asks = absurd (differ (codes "trace") (codes "elf") refl asks.0)
+asked_trace words end adds (Unelf file image) asks = absurd (differ (codes "trace") (codes "unelf") refl asks.0)
+asked_trace words end adds (Audit file harts cycles) asks = absurd (differ (codes "trace") (codes "audit") refl asks.0)
+asked_trace words end adds (Trace file harts cycles) asks = (refl, reads_exec words end adds file harts cycles asks.1 asks.2)
 
 taken_named : (name : Text) (ps : List Part) (known : IsCommand ps) (words : List Text) → Behind name ps words → AreTexts words
     → ((end : List Row) → Adds ps [] false words end → (command : Command) → AsksFor name end command → ReadsBehind name words command)
@@ -160,11 +216,19 @@ taken_word : (word : Text) (words : List Text) → AreTexts words → Named word
 taken_word word words texts (is_run e) fine =
     subst (λ w. IsTaken (w ∷ words)) (sym e) (taken_named (codes "run") run_parts run_command words (behind_run words) texts (asked_run words) (subst (λ w. fault_of written_app (w ∷ words) ≡ []) e fine))
 taken_word word words texts (is_build e) fine =
-    subst (λ w. IsTaken (w ∷ words)) (sym e) (taken_named (codes "build") build_parts build_command words (behind_build words) texts (asked_build words) (subst (λ w. fault_of written_app (w ∷ words) ≡ []) e fine))
+    subst (λ w. IsTaken (w ∷ words)) (sym e) (taken_named (codes "build") put_parts put_command words (behind_build words) texts (asked_build words) (subst (λ w. fault_of written_app (w ∷ words) ≡ []) e fine))
 taken_word word words texts (is_exec e) fine =
     subst (λ w. IsTaken (w ∷ words)) (sym e) (taken_named (codes "exec") exec_parts exec_command words (behind_exec words) texts (asked_exec words) (subst (λ w. fault_of written_app (w ∷ words) ≡ []) e fine))
 taken_word word words texts (is_list e) fine =
     subst (λ w. IsTaken (w ∷ words)) (sym e) (taken_named (codes "list") list_parts list_command words (behind_list words) texts (asked_list words) (subst (λ w. fault_of written_app (w ∷ words) ≡ []) e fine))
+taken_word word words texts (is_elf e) fine =
+    subst (λ w. IsTaken (w ∷ words)) (sym e) (taken_named (codes "elf") put_parts put_command words (behind_elf words) texts (asked_elf words) (subst (λ w. fault_of written_app (w ∷ words) ≡ []) e fine))
+taken_word word words texts (is_unelf e) fine =
+    subst (λ w. IsTaken (w ∷ words)) (sym e) (taken_named (codes "unelf") put_parts put_command words (behind_unelf words) texts (asked_unelf words) (subst (λ w. fault_of written_app (w ∷ words) ≡ []) e fine))
+taken_word word words texts (is_audit e) fine =
+    subst (λ w. IsTaken (w ∷ words)) (sym e) (taken_named (codes "audit") exec_parts exec_command words (behind_audit words) texts (asked_audit words) (subst (λ w. fault_of written_app (w ∷ words) ≡ []) e fine))
+taken_word word words texts (is_trace e) fine =
+    subst (λ w. IsTaken (w ∷ words)) (sym e) (taken_named (codes "trace") exec_parts exec_command words (behind_trace words) texts (asked_trace words) (subst (λ w. fault_of written_app (w ∷ words) ≡ []) e fine))
 taken_word word words texts (other none) fine = absurd (other_word word words none fine)
 
 pub taken : (words : List Text) → AreTexts words → fault_of written_app words ≡ [] → IsTaken words
@@ -235,12 +299,12 @@ exec_in us shows none Cycles e = cc
 exec_in us shows none Show e = not_given Show us shows
 exec_in us shows none Image e = not_given Image us none
 
-build_in : (us : List Argument) → values_of Harts us ≡ [] → values_of Cycles us ≡ [] → values_of Show us ≡ [] → AreIn build_parts us
-build_in us harts cycles shows File e = cc
-build_in us harts cycles shows Harts e = not_given Harts us harts
-build_in us harts cycles shows Cycles e = not_given Cycles us cycles
-build_in us harts cycles shows Show e = not_given Show us shows
-build_in us harts cycles shows Image e = cc
+put_in : (us : List Argument) → values_of Harts us ≡ [] → values_of Cycles us ≡ [] → values_of Show us ≡ [] → AreIn put_parts us
+put_in us harts cycles shows File e = cc
+put_in us harts cycles shows Harts e = not_given Harts us harts
+put_in us harts cycles shows Cycles e = not_given Cycles us cycles
+put_in us harts cycles shows Show e = not_given Show us shows
+put_in us harts cycles shows Image e = cc
 
 list_in : (us : List Argument) → values_of Harts us ≡ [] → values_of Cycles us ≡ [] → values_of Show us ≡ [] → values_of Image us ≡ [] → AreIn list_parts us
 list_in us harts cycles shows none File e = cc
@@ -305,6 +369,28 @@ asked_as word words (Exec file harts cycles) reads =
     (asked_named (codes "exec") exec_parts exec_command words (Exec file harts cycles) us (Some file) (Some r.harts_text) (Some r.cycles_text) None None (behind_exec words) r.given.spelled each
     (exec_in us each.show each.image) (rw (gf, gh, gc) refl)
     (λ end e. (refl, first-is File us (Some file) end e each.file, asks_run us file r.harts_text r.cycles_text None None end harts cycles each e r.harts_are r.cycles_are r.some_harts r.few_harts)))
+asked_as word words (Audit file harts cycles) reads =
+    let r = reads.1 in
+    let us = r.given.arguments in
+    let each = each_of us _ (Some file) (Some r.harts_text) (Some r.cycles_text) None None r.given.values_are refl refl refl refl refl in
+    let gf = given_by File us file [] each.file in
+    let gh = given_by Harts us r.harts_text [] each.harts in
+    let gc = given_by Cycles us r.cycles_text [] each.cycles in
+    subst (λ w. IsAsked (w ∷ words) (Audit file harts cycles)) (sym reads.0)
+    (asked_named (codes "audit") exec_parts exec_command words (Audit file harts cycles) us (Some file) (Some r.harts_text) (Some r.cycles_text) None None (behind_audit words) r.given.spelled each
+    (exec_in us each.show each.image) (rw (gf, gh, gc) refl)
+    (λ end e. (refl, first-is File us (Some file) end e each.file, asks_run us file r.harts_text r.cycles_text None None end harts cycles each e r.harts_are r.cycles_are r.some_harts r.few_harts)))
+asked_as word words (Trace file harts cycles) reads =
+    let r = reads.1 in
+    let us = r.given.arguments in
+    let each = each_of us _ (Some file) (Some r.harts_text) (Some r.cycles_text) None None r.given.values_are refl refl refl refl refl in
+    let gf = given_by File us file [] each.file in
+    let gh = given_by Harts us r.harts_text [] each.harts in
+    let gc = given_by Cycles us r.cycles_text [] each.cycles in
+    subst (λ w. IsAsked (w ∷ words) (Trace file harts cycles)) (sym reads.0)
+    (asked_named (codes "trace") exec_parts exec_command words (Trace file harts cycles) us (Some file) (Some r.harts_text) (Some r.cycles_text) None None (behind_trace words) r.given.spelled each
+    (exec_in us each.show each.image) (rw (gf, gh, gc) refl)
+    (λ end e. (refl, first-is File us (Some file) end e each.file, asks_run us file r.harts_text r.cycles_text None None end harts cycles each e r.harts_are r.cycles_are r.some_harts r.few_harts)))
 asked_as word words (Build file image) reads =
     let r = reads.1 in
     let us = r.arguments in
@@ -312,8 +398,28 @@ asked_as word words (Build file image) reads =
     let gf = given_by File us file [] each.file in
     let gi = given_by Image us image [] each.image in
     subst (λ w. IsAsked (w ∷ words) (Build file image)) (sym reads.0)
-    (asked_named (codes "build") build_parts build_command words (Build file image) us (Some file) None None None (Some image) (behind_build words) r.spelled each
-    (build_in us each.harts each.cycles each.show) (rw (gf, gi) refl)
+    (asked_named (codes "build") put_parts put_command words (Build file image) us (Some file) None None None (Some image) (behind_build words) r.spelled each
+    (put_in us each.harts each.cycles each.show) (rw (gf, gi) refl)
+    (λ end e. (refl, first-is File us (Some file) end e each.file, first-is Image us (Some image) end e each.image)))
+asked_as word words (Elf image file) reads =
+    let r = reads.1 in
+    let us = r.arguments in
+    let each = each_of us _ (Some image) None None None (Some file) r.values_are refl refl refl refl refl in
+    let gf = given_by File us image [] each.file in
+    let gi = given_by Image us file [] each.image in
+    subst (λ w. IsAsked (w ∷ words) (Elf image file)) (sym reads.0)
+    (asked_named (codes "elf") put_parts put_command words (Elf image file) us (Some image) None None None (Some file) (behind_elf words) r.spelled each
+    (put_in us each.harts each.cycles each.show) (rw (gf, gi) refl)
+    (λ end e. (refl, first-is File us (Some image) end e each.file, first-is Image us (Some file) end e each.image)))
+asked_as word words (Unelf file image) reads =
+    let r = reads.1 in
+    let us = r.arguments in
+    let each = each_of us _ (Some file) None None None (Some image) r.values_are refl refl refl refl refl in
+    let gf = given_by File us file [] each.file in
+    let gi = given_by Image us image [] each.image in
+    subst (λ w. IsAsked (w ∷ words) (Unelf file image)) (sym reads.0)
+    (asked_named (codes "unelf") put_parts put_command words (Unelf file image) us (Some file) None None None (Some image) (behind_unelf words) r.spelled each
+    (put_in us each.harts each.cycles each.show) (rw (gf, gi) refl)
     (λ end e. (refl, first-is File us (Some file) end e each.file, first-is Image us (Some image) end e each.image)))
 asked_as word words (ListCode image) reads =
     let r = reads.1 in

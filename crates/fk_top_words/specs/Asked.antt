@@ -3,7 +3,7 @@ use Rattle.std.specs.Prelude.{◌≡◌, ℕ, ◌≤◌, List, Option, Some, Non
 use Rattle.fk_num.specs.Numeral.{read_word}
 use Rattle.clap.specs.Walk.{Row, first_of}
 use Rattle.fk_top_words.specs.Arguments.{Text}
-use Rattle.fk_top_words.specs.Command.{Command, Run, Build, Exec, ListCode}
+use Rattle.fk_top_words.specs.Command.{Command, Run, Build, Exec, ListCode, Elf, Unelf, Audit, Trace}
 
 -- The number that is found for an argument.
 abbrev pub number_of : Text → List Row → Option ℕ
@@ -27,6 +27,16 @@ AsksFor name rows (Exec image harts cycles) = (name ≡ codes "exec")
     × (first_of (codes "file") rows ≡ Some image) × RunsBy rows harts cycles
 AsksFor name rows (ListCode image) = (name ≡ codes "list")
     × (first_of (codes "file") rows ≡ Some image)
+AsksFor name rows (Elf image file) =
+    (name ≡ codes "elf") × (first_of (codes "file") rows ≡ Some image)
+    × (first_of (codes "image") rows ≡ Some file)
+AsksFor name rows (Unelf file image) =
+    (name ≡ codes "unelf") × (first_of (codes "file") rows ≡ Some file)
+    × (first_of (codes "image") rows ≡ Some image)
+AsksFor name rows (Audit file harts cycles) = (name ≡ codes "audit")
+    × (first_of (codes "file") rows ≡ Some file) × RunsBy rows harts cycles
+AsksFor name rows (Trace file harts cycles) = (name ≡ codes "trace")
+    × (first_of (codes "file") rows ≡ Some file) × RunsBy rows harts cycles
 
 -- The command that the command word and the values which `clap` found stand for.
 abbrev pub AsksOf : Option (Text × List Row) → Command → Type 0

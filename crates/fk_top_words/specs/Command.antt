@@ -6,13 +6,18 @@ use Rattle.fk_top_words.specs.declared.command.CommandWords.{CommandWords}
 use Rattle.fk_top_words.specs.declared.command.CommandWords.TheVariants as words
 
 -- The commands: compile a file and run it, and then show a variable, if one is named; compile a
--- file into an image; run an image; list an image's code. A run is by this many harts, for at most
--- this many cycles.
+-- file into an image; run an image; list an image's code; make the ELF file of an image, and the
+-- image of an ELF file; compile a file, run it, and tell which PRAM the run needed; compile a file
+-- and trace its run. A run is by this many harts, for at most this many cycles.
 pub data Command : Type 0 where
   Run : (file : Text) (harts cycles : ℕ) (show : Option Text) → Command
   Build : (file image : Text) → Command
   Exec : (image : Text) (harts cycles : ℕ) → Command
   ListCode : (image : Text) → Command
+  Elf : (image file : Text) → Command
+  Unelf : (file image : Text) → Command
+  Audit : (file : Text) (harts cycles : ℕ) → Command
+  Trace : (file : Text) (harts cycles : ℕ) → Command
 
 abbrev pub once_or_never : Option Text → List Text
 once_or_never None = []
@@ -39,15 +44,26 @@ pub record ReadsRun (words : List Text) (file : Text) (harts cycles : ℕ)
 abbrev pub only_file : Text → Values
 only_file file = record { file = file ∷ []; harts = []; cycles = []; show = []; image = [] }
 
+-- A file that is read, and one that is put.
+abbrev pub two_files : Text → Text → Values
+two_files file image = record (only_file file) { image = image ∷ [] }
+
 -- The command word of each command, and the words after it.
 abbrev pub ReadsBehind : Text → List Text → Command → Type 0
 ReadsBehind word words (Run file harts cycles show) = (word ≡ codes "run")
     × ReadsRun words file harts cycles show
 ReadsBehind word words (Build file image) =
-    (word ≡ codes "build") × Gives words (record (only_file file) { image = image ∷ [] })
+    (word ≡ codes "build") × Gives words (two_files file image)
 ReadsBehind word words (Exec image harts cycles) = (word ≡ codes "exec")
     × ReadsRun words image harts cycles None
 ReadsBehind word words (ListCode image) = (word ≡ codes "list") × Gives words (only_file image)
+ReadsBehind word words (Elf image file) = (word ≡ codes "elf") × Gives words (two_files image file)
+ReadsBehind word words (Unelf file image) =
+    (word ≡ codes "unelf") × Gives words (two_files file image)
+ReadsBehind word words (Audit file harts cycles) = (word ≡ codes "audit")
+    × ReadsRun words file harts cycles None
+ReadsBehind word words (Trace file harts cycles) = (word ≡ codes "trace")
+    × ReadsRun words file harts cycles None
 
 -- The words of each command, those after the program's name.
 abbrev pub Reads : List Text → Command → Type 0
@@ -64,3 +80,7 @@ command_of (words.Run r show) = Run r.file.now r.harts r.cycles (option_map (λ 
 command_of (words.Build file image) = Build file.now image.now
 command_of (words.Exec r) = Exec r.file.now r.harts r.cycles
 command_of (words.List image) = ListCode image.now
+command_of (words.Elf image file) = Elf image.now file.now
+command_of (words.Unelf file image) = Unelf file.now image.now
+command_of (words.Audit r) = Audit r.file.now r.harts r.cycles
+command_of (words.Trace r) = Trace r.file.now r.harts r.cycles

@@ -47,8 +47,8 @@ option_rule name required =
 abbrev pub run_parts : List Part
 run_parts = File ∷ Harts ∷ Cycles ∷ Show ∷ []
 
-abbrev pub build_parts : List Part
-build_parts = File ∷ Image ∷ []
+abbrev pub put_parts : List Part
+put_parts = File ∷ Image ∷ []
 
 abbrev pub exec_parts : List Part
 exec_parts = File ∷ Harts ∷ Cycles ∷ []
@@ -80,6 +80,8 @@ written_top = record (new_shape (codes "fork95")) {
 abbrev pub written_app : App
 written_app = record {
   top = record written_top { is_leaf = false };
-  subs = written_command (codes "run") run_parts ∷ written_command (codes "build") build_parts
-      ∷ written_command (codes "exec") exec_parts ∷ written_command (codes "list") list_parts ∷ [];
+  subs = written_command (codes "run") run_parts ∷ written_command (codes "build") put_parts
+      ∷ written_command (codes "exec") exec_parts ∷ written_command (codes "list") list_parts
+      ∷ written_command (codes "elf") put_parts ∷ written_command (codes "unelf") put_parts
+      ∷ written_command (codes "audit") exec_parts ∷ written_command (codes "trace") exec_parts ∷ [];
 }

@@ -45,6 +45,10 @@ fn asked_for<'a>(given: &ArgMatches<'a>, name: &str) -> Option<CommandWords<'a>>
         "build" => Some(CommandWords::Build(file, text_of(given, "image")?)),
         "exec" => Some(CommandWords::Exec(asked_run(given, file)?)),
         "list" => Some(CommandWords::List(file)),
+        "elf" => Some(CommandWords::Elf(file, text_of(given, "image")?)),
+        "unelf" => Some(CommandWords::Unelf(file, text_of(given, "image")?)),
+        "audit" => Some(CommandWords::Audit(asked_run(given, file)?)),
+        "trace" => Some(CommandWords::Trace(asked_run(given, file)?)),
         _ => None,
     }
 }

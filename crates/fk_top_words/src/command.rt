@@ -27,4 +27,14 @@ pub enum CommandWords<'a> {
     Exec(RunWords<'a>),
     /// `list IMAGE`: lists the code of an image.
     List(&'a str),
+    /// `elf IMAGE -o FILE`: puts the ELF file of an image.
+    Elf(&'a str, &'a str),
+    /// `unelf FILE -o IMAGE`: puts the image of an ELF file.
+    Unelf(&'a str, &'a str),
+    /// `audit FILE --harts P --cycles N`: compiles a source, runs it, and tells which PRAM the run
+    /// needed.
+    Audit(RunWords<'a>),
+    /// `trace FILE --harts P --cycles N`: compiles a source and runs it, and tells what the harts
+    /// commit in each cycle.
+    Trace(RunWords<'a>),
 }

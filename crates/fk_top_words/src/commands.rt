@@ -5,7 +5,7 @@ ghost use Rattle.clap.specs.Simple.{App, app_of, with_rule, with_subcommand};
 ghost use Rattle.clap.specs.Walk.{Rule, rule_of};
 ghost use Rattle.fk_top_words.specs.Arguments.{Part, File, Image};
 ghost use Rattle.fk_top_words.specs.Written.{written, option_rule, IsLocal, leaf, written_command};
-ghost use Rattle.fk_top_words.specs.Written.{run_parts, build_parts, exec_parts, list_parts};
+ghost use Rattle.fk_top_words.specs.Written.{run_parts, put_parts, exec_parts, list_parts};
 ghost use Rattle.fk_top_words.specs.Written.{written_top, written_app};
 
 use clap::{Arg, ArgAction, Command};
@@ -32,6 +32,7 @@ fn option<'a>(alloc: Global, name: &'a str, required: bool) -> Arg<'a>
         .required(required)
 }
 
+// The name of the file that a command puts.
 fn image<'a>(alloc: Global) -> Arg<'a>
     ensures rule { rule_of result ≡ written Image }
     ensures local { result.global ≡ false }
@@ -91,10 +92,11 @@ fn run<'a>(alloc: Global) -> Result<Command<'a>, AllocError>
     taking(running(alloc, "run"), option(alloc, "show", false))
 }
 
-fn build<'a>(alloc: Global) -> Result<Command<'a>, AllocError>
-    ensures { IfOk result (IsLocal (leaf (codes "build") build_parts)) }
+// A command that puts a file, which it makes of another.
+fn putting<'a>(alloc: Global, name: &'a str) -> Result<Command<'a>, AllocError>
+    ensures { IfOk result (IsLocal (leaf name.now put_parts)) }
 {
-    taking(reading(alloc, "build"), image(alloc))
+    taking(reading(alloc, name), image(alloc))
 }
 
 // The program. It has no help, so a request for help is no command.
@@ -113,7 +115,11 @@ pub(crate) fn commands<'a>(alloc: Global) -> Result<Command<'a>, AllocError>
     ensures { IfOk result (λ c. app_of c ≡ written_app) }
 {
     let sources = holding(Ok(program(alloc)), run(alloc));
-    let sources = holding(sources, build(alloc));
+    let sources = holding(sources, putting(alloc, "build"));
     let images = holding(sources, running(alloc, "exec"));
-    holding(images, reading(alloc, "list"))
+    let images = holding(images, reading(alloc, "list"));
+    let files = holding(images, putting(alloc, "elf"));
+    let files = holding(files, putting(alloc, "unelf"));
+    let runs = holding(files, running(alloc, "audit"));
+    holding(runs, running(alloc, "trace"))
 }

@@ -36,12 +36,12 @@ generate-requires-clause-globals c =
     let few = few_words (program_of text.tree) text.facts text.layout c.in_ok-text.ensures.laid c.in_ok-text.ensures.fits in
     omega (arith, few, c.len-globals.ensures)
 
-pub levels-requires-clause-small : goal.levels-requires-clause-small
-levels-requires-clause-small c =
+pub levels-requires : goal.levels-requires
+levels-requires c =
     let core = c.in_ok-list.list.ops.items in
     let all = few_operations core in
     let small = c.in_ok-list.ensures.small in
-    subst (λ (ops : List CoreOp). length ops < 2 ^ 31) (sym c.deref-2.ensures.value) (omega (arith, all, small))
+    record { small = subst (λ (ops : List CoreOp). length ops < 2 ^ 31) (sym c.deref-2.ensures.value) (omega (arith, all, small)) }
 
 pub generate-requires-clause-list : goal.generate-requires-clause-list
 generate-requires-clause-list c =
@@ -50,7 +50,7 @@ generate-requires-clause-list c =
     let saved = c.in_ok-saved.saved in
     let layout = c.in_ok-text.text.layout in
     let leads = c.in_ok-list.ensures.list.code.leads_on in
-    let are = are_levels list.ops.items c.deref-2.result.now c.levels.result c.map_err.result saved c.deref-2.ensures.value c.levels.ensures c.map_err.ensures.cases c.in_ok-saved.was in
+    let are = are_levels _ list.ops.items c.deref-2.result.now c.levels.result c.map_err.result saved c.deref-2.ensures.value c.levels.ensures c.map_err.ensures.cases c.in_ok-saved.was in
     let generable =
     subst (λ (firsts : List ℕ). IsGenerable list.ops.items kept.items saved.items list.main firsts) c.deref.ensures.value
     (c.in_ok-kept.ensures.generable leads saved.items are) in
@@ -102,7 +102,7 @@ returns-clause-faithful c =
             held = held;
             least = c.in_ok-kept.ensures.least;
             levels =
-                are_levels list.ops.items c.deref-2.result.now c.levels.result c.map_err.result saved c.deref-2.ensures.value c.levels.ensures c.map_err.ensures.cases c.in_ok-saved.was;
+                are_levels _ list.ops.items c.deref-2.result.now c.levels.result c.map_err.result saved c.deref-2.ensures.value c.levels.ensures c.map_err.ensures.cases c.in_ok-saved.was;
             law =
                 gives_the_law list.ops.items c.deref-3.result.now kept.items c.deref-4.result.now saved.items c.deref-5.result.now list.main layout.firsts.items c.deref-6.result.now
                 (vec_len layout.words) c.len-globals.result code c.deref-3.ensures.value c.deref-4.ensures.value c.deref-5.ensures.value c.deref-6.ensures.value

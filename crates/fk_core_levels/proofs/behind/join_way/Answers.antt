@@ -1,4 +1,4 @@
-use Rattle.std.proofs.Common.{◌≡◌, ◌<◌, length, ap, sym, ◌∙◌, subst, arith}
+use Rattle.std.proofs.Common.{◌<◌, length, ap, sym, ◌∙◌, subst, arith}
 use Rattle.fk_core_levels.specs.Behind.{leads}
 use Rattle.fk_core_levels.specs.Levels.{joined, IsSettling}
 use Rattle.fk_core_levels.proofs.Raised.{joined_stays}

@@ -1,7 +1,6 @@
-use Rattle.std.proofs.Common.{◌≡◌, ◌<◌, ◌≤◌, ap, sym, ◌∙◌, arith}
+use Rattle.std.proofs.Common.{◌≡◌, ap, sym, ◌∙◌, arith}
 use Rattle.std.specs.Prelude.{slice_set}
 use Rattle.fk_gen.specs.declared.placed.Levels.{Levels}
-use Rattle.fk_gen.specs.Levels.{levels_in}
 use Rattle.fk_core_levels.specs.Levels.{behind_in}
 use Rattle.fk_core_levels.proofs.Raised.{raised_low, raised_new, raised_fewer}
 use Rattle.fk_core_levels.proofs.behind.raise.Goals as goal

@@ -1,4 +1,4 @@
-use Rattle.std.proofs.Common.{◌≡◌, sym, ◌∙◌, subst}
+use Rattle.std.proofs.Common.{sym, ◌∙◌, subst}
 use Rattle.fk_core_levels.specs.Levels.{IsSettling}
 use Rattle.fk_core_levels.proofs.Settling.{told_settles}
 use Rattle.fk_core_levels.proofs.pass.levels.Goals as goal

@@ -1,5 +1,5 @@
 use Rattle.std.proofs.Common.{◌≡◌, [], length}
-use Rattle.fk_ports.proofs.Given.{IsGiven}
+use Rattle.fk_ports.specs.Known.{IsGiven}
 use Rattle.fk_ports.proofs.sink.give_all.Given as goal
 
 abbrev pub invariant-loop-rest : goal.invariant-loop-rest

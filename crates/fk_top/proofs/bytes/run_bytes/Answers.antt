@@ -5,11 +5,11 @@ use Rattle.fk_image.specs.declared.Image.{Image}
 use Rattle.fk_image.specs.Spelling.{IsImageOf}
 use Rattle.fk_top.specs.declared.ending.Ending.{Ending}
 use Rattle.fk_top.specs.Ending.{outcome_of}
-use Rattle.fk_top.specs.Outcome.{EndsOn, RefusesImage, RunsImage}
+use Rattle.fk_top.specs.Outcome.{Prints, EndsOn, RefusesImage, RunsImage}
 use Rattle.fk_top.proofs.Refusing.{refusing_image}
 use Rattle.fk_top.proofs.bytes.run_bytes.Goals as goal
 
-runs : (r : Result Ending AllocError) (bytes text : List ℕ) (image : Image) (p n : ℕ) → IsImageOf bytes image → IfOk r (λ e. EndsOn image text p n None (outcome_of e))
+runs : (r : Result Ending AllocError) (bytes text : List ℕ) (image : Image) (p n : ℕ) → IsImageOf bytes image → IfOk r (λ e. EndsOn image text p n (Prints None) (outcome_of e))
     → IfOk r (λ e. RefusesImage bytes (outcome_of e) ⊎ RunsImage bytes text p n (outcome_of e))
 runs (Ok e) bytes text image p n spelled ends = inr (record { image = image; spelled = spelled; ends = ends })
 runs (Err e) bytes text image p n spelled ends = tt

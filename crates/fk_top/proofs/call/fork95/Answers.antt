@@ -2,7 +2,7 @@ use Rattle.std.proofs.Common.{refl, map, string_bytes, Global, sym, ◌∙◌}
 use Rattle.fk_ports.proofs.Given.{append_known-nil}
 use Rattle.fk_top.specs.Ending.{outcome_of}
 use Rattle.fk_top.specs.Call.{given_of, request_of, sunk_of}
-use Rattle.fk_top.proofs.Answered.{same_ends, same_cause, nothing_put, steady_read}
+use Rattle.fk_top.proofs.Answered.{same_ends, same_cause, nothing_of, steady_read}
 use Rattle.fk_top.proofs.Whole.{answer_of}
 use Rattle.fk_top.proofs.call.fork95.Goals as goal
 
@@ -13,7 +13,7 @@ returns-in-Ok g c =
     let request = request_of g.F.Store.files g.F.Store.fetch_faults words c.args.files.now c.give_ending.new.files input in
     let ends = c.in-Ok.ensures.ends in
     let given = c.give_ending.ensures in
-    let steady = steady_read c.in-Ok.ending c.give_ending.result c.in-Ok.ensures.steady given.status in
+    let steady = steady_read (outcome_of c.in-Ok.ending) c.give_ending.result c.in-Ok.ensures.steady given.status in
     record {
       call = answer_of _ _
           (same_cause request _ _ _ _ _ _ (sunk_of g.K.Sink.taken g.K.Sink.faults c.args.out.now c.give_ending.new.out) (sunk_of g.E.Sink.taken g.E.Sink.faults c.args.err.now c.give_ending.new.err) c.give_ending.result
@@ -28,7 +28,7 @@ returns-in-Ok g c =
           })
           c.find_ending.ensures.left
           c.find_ending.ensures.input_faults
-          (λ not. given.nothing_put (nothing_put _ (outcome_of c.in-Ok.ending) c.in-Ok.ending.put refl ends not) ∙ c.find_ending.ensures.put_faults);
+          (λ not. given.nothing_put (nothing_of _ (outcome_of c.in-Ok.ending) ends not) ∙ c.find_ending.ensures.put_faults);
     }
 
 pub returns-in-Err : goal.returns-in-Err

@@ -1,14 +1,14 @@
-use Rattle.std.proofs.Common.{refl, sym}
-use Rattle.fk_ports.proofs.Given.{append_known-nil}
+use Rattle.std.proofs.Common.{subst, refl}
+use Rattle.fk_top.specs.declared.ending.Ending.{Ending}
 use Rattle.fk_top.specs.Ending.{outcome_of}
-use Rattle.fk_top.proofs.Answered.{some_file}
-use Rattle.fk_top.proofs.Causes.{put_takes}
+use Rattle.fk_top.specs.Call.{Ends, stored_of}
 use Rattle.fk_top.proofs.call.give_ending.Goals as goal
 
-pub returns-in-Err-Memory-clause-cause : goal.returns-in-Err-Memory-clause-cause
-returns-in-Err-Memory-clause-cause g c = λ request ends. record {
-  took = put_takes request (outcome_of c.args.ending.now) ends (some_file c.args.ending.now.put c.put_file.result _ c.put_file.ensures.nothing c.in-Err-Memory.is);
-  put = c.in-Err-Memory.ensures.memory (let is = c.in-Err-Memory.field-0-is in cc);
-  out_took = sym (append_known-nil _);
-  err_took = sym (append_known-nil _);
-}
+pub returns-in-Told-clause-cause : goal.returns-in-Told-clause-cause
+returns-in-Told-clause-cause g c = λ request ends.
+    c.give_told.ensures.cause request (subst (λ (e : Ending). Ends request (outcome_of e)) c.in-Told.is ends)
+
+pub returns-in-Runs-clause-cause : goal.returns-in-Runs-clause-cause
+returns-in-Runs-clause-cause g c = λ request ends.
+    c.run_and_report.ensures.cause request (stored_of g.F.Store.files g.F.Store.put_faults c.args.files.now c.args.files.now) refl
+    (subst (λ (e : Ending). Ends request (outcome_of e)) c.in-Runs.is ends)

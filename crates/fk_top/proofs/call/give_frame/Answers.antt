@@ -1,7 +1,7 @@
 use Rattle.std.proofs.Common.{ℕ, List, [], ◌∷◌, ◌++◌, codes, sym, ap, ◌∙◌, append_assoc}
 use Rattle.std.specs.Fmt.{decimal}
 use Rattle.fk_top.specs.Report.{frame_line}
-use Rattle.fk_top.proofs.Pieces.{told}
+use Rattle.fk_ports.proofs.Pieces.{told}
 use Rattle.fk_top.proofs.call.give_frame.Goals as goal
 
 pub returns-clause-all : goal.returns-clause-all

@@ -1,7 +1,7 @@
 use Rattle.std.proofs.Common.{ℕ, List, sym, ap, ◌∙◌}
 use Rattle.fk_top.specs.Report.{frame_line, no_global_line}
 use Rattle.fk_top.specs.Ending.{last_line}
-use Rattle.fk_top.proofs.Pieces.{told}
+use Rattle.fk_ports.proofs.Pieces.{told}
 use Rattle.fk_top.proofs.call.give_line.Goals as goal
 
 pub returns-in-FrameTooLarge-clause-all : goal.returns-in-FrameTooLarge-clause-all

@@ -11,12 +11,12 @@ use Rattle.fk_compile_text.proofs.Shared.{global_of, row_few}
 use Rattle.fk_compile.specs.Faithful.{IsFaithful}
 use Rattle.fk_top.specs.declared.ending.Ending.{Ending}
 use Rattle.fk_top.specs.Ending.{outcome_of}
-use Rattle.fk_top.specs.Outcome.{EndsOn, LacksGlobal, RunsSource, IsShown}
+use Rattle.fk_top.specs.Outcome.{Prints, EndsOn, LacksGlobal, RunsSource, IsShown}
 use Rattle.fk_top.proofs.source.run_and_show.Goals as goal
 
 -- what comes of an image of a source comes of the source
 runs : (r : Result Ending AllocError) (source text : List ℕ) (image : Image) (p n : ℕ) (show asked : Option Text) (shown : Option Row) → show ≡ asked → IsFaithful source image → IsShown source asked shown
-    → IfOk r (λ e. EndsOn image text p n shown (outcome_of e)) → IfOk r (λ e. LacksGlobal source show (outcome_of e) ⊎ RunsSource source text p n show (outcome_of e))
+    → IfOk r (λ e. EndsOn image text p n (Prints shown) (outcome_of e)) → IfOk r (λ e. LacksGlobal source show (outcome_of e) ⊎ RunsSource source text p n show (outcome_of e))
 runs (Ok e) source text image p n show asked shown same compiled is ends =
     inr (record { image = image; compiled = compiled; shown = shown; is_shown = subst (λ (s : Option Text). IsShown source s shown) (sym same) is; ends = ends })
 runs (Err e) source text image p n show asked shown same compiled is ends = tt
@@ -35,11 +35,11 @@ found rows list bytes name row same_rows same_name is =
 
 pub returns-in_default : goal.returns-in_default
 returns-in_default c = λ source faithful rows.
-    runs c.run_ending.result source c.args.text.now c.args.compiled.now.image _ _ _ None None (ap (option_map (λ s. s.now)) c.in_default.is) faithful tt c.run_ending.ensures
+    runs c.run_ending.result source c.args.text.now c.args.compiled.image _ _ _ None None (ap (option_map (λ s. s.now)) c.in_default.is) faithful tt c.run_ending.ensures
 
 pub invariant_of-variable : goal.invariant_of-variable
 invariant_of-variable c =
-    let rows = c.args.compiled.now.rows.items in
+    let rows = c.args.compiled.rows.items in
     let name = c.in-Some.name.now in
     let row = c.in-Some-find_global.row in
     record {
@@ -49,17 +49,17 @@ invariant_of-variable c =
 
 pub returns-in-Some-find_global : goal.returns-in-Some-find_global
 returns-in-Some-find_global c = λ source faithful has.
-    let rows = c.args.compiled.now.rows.items in
+    let rows = c.args.compiled.rows.items in
     let name = c.in-Some.name.now in
     let row = c.in-Some-find_global.row in
     let is = found rows c.deref.result.now c.as_bytes.result.now name (Some row) c.deref.ensures.value c.as_bytes.ensures.value c.in-Some-find_global.ensures in
-    runs c.run_ending-in-Some-find_global.result source c.args.text.now c.args.compiled.now.image _ _ _ (Some name)
+    runs c.run_ending-in-Some-find_global.result source c.args.text.now c.args.compiled.image _ _ _ (Some name)
     (Some (record { name = name; first = row.first; words = row.words; signed = row.signed }))
     (ap (option_map (λ s. s.now)) c.in-Some.is) faithful (called source name (row_of row) (global_of source name rows has (Some row) is)) c.run_ending-in-Some-find_global.ensures
 
-pub returns-in-None : goal.returns-in-None
-returns-in-None c = λ source faithful has.
-    let rows = c.args.compiled.now.rows.items in
+pub returns : goal.returns
+returns c = λ source faithful has.
+    let rows = c.args.compiled.rows.items in
     let name = c.in-Some.name.now in
     inl (record {
       name = name;

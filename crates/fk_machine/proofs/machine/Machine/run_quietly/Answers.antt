@@ -2,7 +2,7 @@ use Rattle.std.proofs.Common.{◌≡◌, suc, sym, ap, ◌∙◌, arith, ◌+◌
 use Rattle.fk_machine.specs.Cycle.{Machine, cycle, is_running}
 use Rattle.fk_machine.specs.Run.{after, output_in}
 use Rattle.fk_machine.specs.View.{machine_of, shared_of}
-use Rattle.fk_machine.proofs.Runs.{begun-after, quiet, after-quiet, output_in-quiet, output_in-first, output_in-none}
+use Rattle.fk_machine.proofs.Runs.{begun-after, quiet, after-quiet, output_in-quiet, output_in-first, output_in-none, stand-quiet, running-before}
 use Rattle.fk_machine.proofs.machine.Machine.run_quietly.Goals as goal
 
 pub serve-stand-requires-clause-count : goal.serve-stand-requires-clause-count
@@ -53,6 +53,31 @@ returns-then-ne-clause-quiet c =
     ∙ sym (output_in-quiet (machine_of m) k (ap is_running c.requires.running))
     ∙ ap (output_in k) (sym cleared)
     ∙ c.loop-done.invariant.printed
+
+pub returns-then-ne-clause-before : goal.returns-then-ne-clause-before
+unfolding machine_of
+returns-then-ne-clause-before c =
+    let m = c.args.self.now in
+    let k = c.loop-done.done in
+    let cleared = ap (λ bytes. record (machine_of m) { shared = record (shared_of m.shared) { output = bytes } }) c.clear.ensures.items in
+    let running = ap is_running c.requires.running in
+    let ran = c.loop-done.invariant.ran ∙ ap (after k) cleared in
+    let still = ap (λ (l : Machine). is_running l.stand) (sym ran) ∙ ap is_running c.loop-done.invariant.running in
+    let one : (k + 1) - 1 ≡ k = omega arith in
+    ap (λ i. is_running (after i (machine_of m)).stand) one
+    ∙ ap is_running (sym (stand-quiet (machine_of m) k running))
+    ∙ still
+
+pub returns-clause-before : goal.returns-clause-before
+unfolding machine_of
+returns-clause-before c =
+    let m = c.args.self.now in
+    let cleared = ap (λ bytes. record (machine_of m) { shared = record (shared_of m.shared) { output = bytes } }) c.clear.ensures.items in
+    let running = ap is_running c.requires.running in
+    let end : c.loop-done.done ≡ c.args.cycles = omega (arith, c.loop-done-test.false, c.loop-done.auto.done-end) in
+    let ran = c.loop-done.invariant.ran ∙ ap (after c.loop-done.done) cleared ∙ ap (λ i. after i (quiet (machine_of m))) end in
+    let still = ap (λ (l : Machine). is_running l.stand) (sym ran) ∙ ap is_running c.loop-done.invariant.running in
+    running-before (machine_of m) c.args.cycles (ap is_running (sym (stand-quiet (machine_of m) c.args.cycles running)) ∙ still)
 
 pub returns-clause-machine : goal.returns-clause-machine
 unfolding machine_of

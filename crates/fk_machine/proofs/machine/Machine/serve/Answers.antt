@@ -2,7 +2,7 @@ use Rattle.std.proofs.Common.{◌≡◌, ap, ◌∙◌, arith}
 use Rattle.std.specs.Vec.{with_items}
 use Rattle.std.proofs.lemmas.List.{with_items_is}
 use Rattle.fk_machine.specs.Cycle.{stand_after}
-use Rattle.fk_machine.specs.View.{harts_of, local_of, shared_of, machine_of}
+use Rattle.fk_machine.specs.View.{harts_of, local_of, ran_of, shared_of, machine_of}
 use Rattle.fk_machine.proofs.Cycled.{cycled, machine_after}
 use Rattle.fk_machine.proofs.machine.Machine.serve.Goals as goal
 
@@ -20,6 +20,6 @@ returns-clause-cycle c =
     let ends = c.change_to.ensures ∙ c.stand_after-stand.ensures (local_of ls) ∙ ap (λ l. stand_after c.take_turns.new.stop (harts_of 0 l (local_of ls))) (c.deref.ensures.value ∙ harts) in
     let s' = shared_of c.take_turns.new.shared in
     let stand = c.change_to.new.self in
-    ap (λ l. machine_after (machine_of m) (harts_of 0 l (local_of (with_items m.locals ls).items)) s' stand) harts
-    ∙ ap (λ l. machine_after (machine_of m) (harts_of 0 hs (local_of l)) s' stand) locals
+    ap (λ l. machine_after (machine_of m) (harts_of 0 l (local_of (with_items m.locals ls).items)) (ran_of l) s' stand) harts
+    ∙ ap (λ l. machine_after (machine_of m) (harts_of 0 hs (local_of l)) (ran_of hs) s' stand) locals
     ∙ cycled m _ s' hs ls c.take_turns.new.stop stand running begins given ends

@@ -5,5 +5,5 @@ use Rattle.fk_machine.proofs.setting.Setting.new.Given as goal
 
 abbrev pub invariant-loop-word : goal.invariant-loop-word
 invariant-loop-word l = record {
-  decoded : map row_of l.words.items ≡ map row (take l.word-index l.code);
+  decoded : map row_of l.decoded.items ≡ map row (take l.word-index l.code);
 }

@@ -1,0 +1,4 @@
+pub mod Access
+pub mod Touch
+pub mod Clash
+pub mod Mark

@@ -1,0 +1,5 @@
+pub mod Faults
+pub mod Files
+pub mod Headers
+pub mod Parts
+pub mod Words
