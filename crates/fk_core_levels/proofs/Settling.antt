@@ -1,6 +1,6 @@
 -- The levels of a list, as far as they are found.
-use Rattle.std.proofs.Common.{◌≡◌, ℕ, zero, suc, ◌<◌, ◌≤◌, Bool, false, List, [], ◌∷◌, length, slice_get, Some, map, ap, refl, ◌∙◌, arith, ◌⊎◌, inl, inr}
-use Rattle.std.specs.Prelude.{if◌then◌else◌, Option}
+use Rattle.std.proofs.Common.{◌≡◌, ℕ, zero, suc, ◌<◌, ◌≤◌, Bool, false, List, [], ◌∷◌, length, slice_get, Some, map, ap, refl, ◌∙◌, arith, ◌⊎◌, inl, inr, true}
+use Rattle.std.specs.Prelude.{if◌then◌else◌, Option, None}
 use Rattle.fk_meaning_operation.specs.declared.operation.Operation.{Operation}
 use Rattle.fk_meaning_operation.specs.declared.operation.Operation.TheVariants.{Get, Set}
 use Rattle.fk_meaning_operation.specs.declared.operation.OwnValue.TheVariants.{Value}
