@@ -461,7 +461,7 @@ ROWS += [
     Row(run("first.f95") + ["--show", "x"], 0, b"x = 0\n", FINISHED),
     Row(run("first.f95") + ["--show", "y"], 0, b"y = 1\n", FINISHED),
     Row(run("empty.f95") + ["--show", "main"], 1, b"", r"refused 23 NoGlobal main\n", given=b"x"),
-    Row(run("fork.f95") + ["--show", "y"], 1, b"", r"refused 22 NotBuilt\n", given=b"x"),
+    Row(run("fork.f95") + ["--show", "y"], 1, b"", r"refused 23 NoGlobal y\n", given=b"x"),
     Row(execute("halt.image"), 0, b"", r"finished after 2 cycles\n", given=b"1 -2 3"),
     # more bytes than are moved at once
     Row(run("far.f95"), 0, b"5\n", FINISHED),
@@ -588,14 +588,7 @@ for index, rule in enumerate(RULES):
     name = f"rule{index}.f95"
     FILES[name], line = breaking(*rule)
     ROWS.append(Row(run(name), 1, b"", line))
-# texts that keep all rules, with a `fork`; the last one in a function that nobody calls
-NOT_BUILT = [
-    b"void main(void) { start fork (2; @=$; $=0) ; }",
-    b"void main(void) { int x; start { while (x) if ($) fork (2; @=$) x = @; } }",
-    b"sync void f(void) { fork (2; @=$) ; } void main(void) { start f(); }",
-    b"sync void f(void) { fork (2; @=$) ; } void main(void) { }",
-]
-# texts with group frames, `shalloc`, `shmalloc` or splits, and the kinds of their sites by hand
+# texts with group frames, `shalloc`, `shmalloc`, splits or a `fork`, and the kinds of their sites by hand
 BUILT = {
     b"void main(void) { shmalloc(4); }": [1, 21, 4, 34],
     b"sync void f(void) { sh int a; } void main(void) { }": [2, 1, 14, 4, 11, 34],
@@ -614,14 +607,13 @@ BUILT = {
     b"void main(void) { start while ($) ; }": [2, 23, 27, 2, 28, 30, 29, 30, 34],
     b"void main(void) { start do ; while ($); }": [2, 23, 27, 2, 28, 30, 29, 30, 34],
     b"sync void f(void) { if ($) { sh int k; } } void main(void) { }": [2, 27, 25, 2, 1, 14, 4, 29, 30, 11, 34],
+    # the count, agree, the part and the rank of each member, split; and in a function that nobody calls
+    b"void main(void) { start fork (2; @=$; $=0) ; }": [2, 23, 1, 24, 2, 1, 27, 29, 30, 29, 30, 34],
+    b"sync void f(void) { fork (2; @=$) ; } void main(void) { }": [1, 24, 2, 2, 27, 29, 30, 11, 34],
 }
-# a text that keeps all rules and isn't built; and mistakes of several kinds in one text
-FILES["valid.f95"] = b"void main(void) { start fork (1; @=0) ; }"
+# mistakes of several kinds in one text
 FILES["all.f95"] = b"int ib[2]; void main(void) { farm ; y = ? }"
 ROWS += [
-    Row(run("valid.f95"), 1, b"", r"refused 22 NotBuilt\n"),
-    Row(run("valid.f95") + ["--show", "y"], 1, b"", r"refused 22 NotBuilt\n"),
-    *[refused(text, r"refused 22 NotBuilt\n") for text in NOT_BUILT],
     *[built(text, kinds) for text, kinds in BUILT.items()],
     Row(run("undeclared.f95") + ["--show", "y"], 1, b"", r"refused 8 Rule 1 at 1:26\n", given=b"x"),
     Row(run("all.f95"), 1, b"", r"refused 5 Unexpected at 1:41\n"),

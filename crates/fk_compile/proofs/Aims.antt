@@ -13,7 +13,7 @@ use Rattle.fk_core_flat.specs.Flat.{begins_here, skip, gap, label, flat}
 use Rattle.fk_core_flat.specs.Shape.{is_closed, IsShaped, IsOpening}
 use Rattle.fk_core_flat.proofs.Lengths.{flat_length}
 use Rattle.fk_core_flat.proofs.Parts.{choice_at, turns_at, rounds_at, entering_at}
-use Rattle.fk_compile.specs.PlainLists.{StraightHasNoTarget}
+use Rattle.fk_compile.specs.ListLaws.{StraightHasNoTarget}
 
 -- of each operation among items
 abbrev AllAim : List Item → Type 0

@@ -1,5 +1,4 @@
--- Operations other than the split of a `fork` have blocks, with their targets in the list, and find
--- their values.
+-- Operations have blocks, with their targets in the list, and find their values.
 use Rattle.std.proofs.Common.{◌≡◌, ℕ, suc, ◌<◌, ◌≤◌, List, [], length, true, false, arith, refl, inl, inr}
 use Rattle.std.proofs.lemmas.Option.{slice_get_within}
 use Rattle.std.proofs.lemmas.List.Elements.{All-head}
@@ -17,8 +16,7 @@ use Rattle.fk_sim_block.specs.Ready.{is_alone}
 use Rattle.fk_core_typing.specs.Laws.{LeadsWithin}
 use Rattle.fk_gen_list.specs.Generable.{HasOwnBlock, has_target}
 use Rattle.fk_sim_block.specs.Lockstep.{values_of_step}
-use Rattle.fk_compile_text.specs.Plain.{is_plain}
-use Rattle.fk_compile.specs.PlainLists.{PlainListsHaveBlocks, StepsFindValues}
+use Rattle.fk_compile.specs.ListLaws.{ListsHaveBlocks, StepsFindValues}
 use Rattle.fk_compile.proofs.Aims.{straight_has_no_target}
 
 never : {A : Type 0} → false ≡ true → A
@@ -30,26 +28,25 @@ combine_alone MpMax = refl
 combine_alone MpAnd = refl
 combine_alone MpOr = refl
 
-own_block : (operation : Operation) → is_plain operation ≡ true → HasOwnBlock operation
-own_block (Split Fork) plain = never plain
-own_block (Split IfAlone) plain = inr (inr refl)
-own_block (Split IfElse) plain = inr (inr refl)
-own_block (Split AndThen) plain = inr (inr refl)
-own_block (Split OrElse) plain = inr (inr refl)
-own_block (Split Loop) plain = inr (inr refl)
-own_block Shrink plain = inr (inr refl)
-own_block Halt plain = inr (inl refl)
-own_block Begin plain = inr (inr refl)
-own_block Agree plain = inr (inr refl)
-own_block (Frame nesting words) plain = inr (inr refl)
-own_block Block plain = inr (inr refl)
-own_block Farm plain = inr (inr refl)
-own_block Seq plain = inr (inr refl)
-own_block End plain = inr (inr refl)
-own_block Resume plain = inr (inr refl)
-own_block (Meet closing) plain = inr (inr refl)
-own_block (Combine by) plain = inl (combine_alone by)
-own_block operation plain = inl refl
+own_block : (operation : Operation) → HasOwnBlock operation
+own_block (Split IfAlone) = inr (inr refl)
+own_block (Split IfElse) = inr (inr refl)
+own_block (Split AndThen) = inr (inr refl)
+own_block (Split OrElse) = inr (inr refl)
+own_block (Split Loop) = inr (inr refl)
+own_block Shrink = inr (inr refl)
+own_block Halt = inr (inl refl)
+own_block Begin = inr (inr refl)
+own_block Agree = inr (inr refl)
+own_block (Frame nesting words) = inr (inr refl)
+own_block Block = inr (inr refl)
+own_block Farm = inr (inr refl)
+own_block Seq = inr (inr refl)
+own_block End = inr (inr refl)
+own_block Resume = inr (inr refl)
+own_block (Meet closing) = inr (inr refl)
+own_block (Combine by) = inl (combine_alone by)
+own_block operation = inl refl
 
 -- a branch and what leads away goes on at its target, which is in the list; the other steps go straight on
 target_within : (core : List CoreOp) → LeadsWithin core → (i : ℕ) (op : CoreOp) (operation : Operation) → OpAt core i op operation
@@ -68,10 +65,10 @@ target_within core leads i op Resume stands none target = let e = none refl in l
 target_within core leads i op (Meet closing) stands none target = let e = none refl in let within = slice_get_within core i op stands.stands in omega (arith, e, within)
 target_within core leads i op operation stands none target = never target
 
-pub plain_lists_have_blocks : PlainListsHaveBlocks
-plain_lists_have_blocks bodies core entry shaped listed plain leads = record {
+pub lists_have_blocks : ListsHaveBlocks
+lists_have_blocks bodies core entry shaped listed leads = record {
   jumps = λ i op at jump. let there = leads.jumps i op at jump in slice_get_within core op.target there.op there.stands;
-  operations = λ i op operation stands. own_block operation (plain i op operation stands.stands stands.is_read);
+  operations = λ i op operation stands. own_block operation;
   targets = λ i op operation stands target.
       target_within core leads i op operation stands (straight_has_no_target bodies core entry shaped listed i op operation stands) target;
   returns = λ i op n stands.

@@ -19,9 +19,6 @@ use Rattle.fk_lockstep_structure.specs.Placed as w
 use Rattle.fk_lockstep_structure.specs.InPlace.{NoneShared, BodyInPlace, FunctionsInPlace}
 use Rattle.fk_lockstep_structure.specs.Inner.{FunctionsInner}
 use Rattle.fk_lockstep_tree.specs.Leads.{Loop, turning, Leads}
-use Rattle.fk_compile_text.specs.Built.{operations, operations_in}
-use Rattle.fk_compile_text.specs.Plain.{is_plain}
-use Rattle.fk_lower_laws.proofs.Along.{EachOf, each_of, front, back, along}
 use Rattle.fk_compile.specs.Led.{ProgramsAreLed}
 use Rattle.fk_compile.proofs.Wants.{Base, Main, Root, Group, Body, place_of, who_of, Want}
 use Rattle.fk_compile.proofs.LedTexts.{MayLeave, body_leads}
@@ -117,15 +114,15 @@ module _ (tables : Tables) (may_call : (in_group : Bool) → (function : ℕ) �
     function_by : (b : Base) (outermost main : Bool) (mode : Mode) (result : TypeTree) (name : Named) (parameters : List DeclaredTree) (body : Option Statements)
         → let f : FunctionTree = record { mode = mode; result = result; name = name; parameters = parameters; body = body } in
         is_main f ≡ main → w.is_main (who_of b outermost) ≡ main → BodyInPlace tables may_call main (who_of b outermost) body → Leaves f b → BodyShaped tables functions body
-        → EachOf is_plain (operations (code_of tables everyone f)) → Leads may_call (place_of b) None (place_of b) (code_of tables everyone f) (place_of b)
-    function_by b outermost main mode result name parameters None is who_is h leaves shaped plain = refl
-    function_by b outermost main mode result name parameters (Some statements) is who_is h leaves shaped plain =
+        → Leads may_call (place_of b) None (place_of b) (code_of tables everyone f) (place_of b)
+    function_by b outermost main mode result name parameters None is who_is h leaves shaped = refl
+    function_by b outermost main mode result name parameters (Some statements) is who_is h leaves shaped =
         let f : FunctionTree = record { mode = mode; result = result; name = name; parameters = parameters; body = Some statements } in
         let inside : Inside = record { main = is_main f; framed = is_some (frame_at tables name.at 0) } in
         body_leads tables functions may_call unshared frameless (wanted b outermost) inside (is_nothing result) statements
         (subst (λ m. w.is_main (who_of b outermost) ≡ m) (sym is) who_is) leaves
         (subst (λ m. BodyInPlace tables may_call m (who_of b outermost) (Some statements)) (sym is) h)
-        (along is_plain (code_of tables everyone f) plain) (body_shaped tables functions inside (is_nothing result) statements shaped)
+        (body_shaped tables functions inside (is_nothing result) statements shaped)
 
     -- functions that are run there; and `main`
     abbrev Given : (b : Base) (outermost : Bool) (binding : ℕ) → FunctionTree → Type 0
@@ -139,11 +136,11 @@ module _ (tables : Tables) (may_call : (in_group : Bool) → (function : ℕ) �
     AllGiven b outermost binding (f ∷ fs) = Given b outermost binding f × AllGiven b outermost binding fs
 
     bodies : (b : Base) (outermost : Bool) (binding : ℕ) (fs : List FunctionTree) (first : ℕ) → AllGiven b outermost binding fs → FunctionsShaped tables functions fs
-        → EachOf is_plain (operations_in tables everyone fs) → Leads may_call (place_of b) None (place_of b) (body_in tables everyone first fs binding) (place_of b)
-    bodies b outermost binding [] first h shaped plain = refl
-    bodies b outermost binding (f ∷ fs) first h shaped plain =
+        → Leads may_call (place_of b) None (place_of b) (body_in tables everyone first fs binding) (place_of b)
+    bodies b outermost binding [] first h shaped = refl
+    bodies b outermost binding (f ∷ fs) first h shaped =
         by (binding_of tables f == binding) refl
-        (bodies b outermost binding fs (first + size (code_of tables everyone f)) h.1 shaped.1 (back is_plain (operations (code_of tables everyone f)) (operations_in tables everyone fs) plain))
+        (bodies b outermost binding fs (first + size (code_of tables everyone f)) h.1 shaped.1)
       where
         by : (is : Bool) → (binding_of tables f == binding) ≡ is
             → Leads may_call (place_of b) None (place_of b) (body_in tables everyone (first + size (code_of tables everyone f)) fs binding) (place_of b)
@@ -152,8 +149,7 @@ module _ (tables : Tables) (may_call : (in_group : Bool) → (function : ℕ) �
         by true is others =
             let g = h.0 is in
             numbers may_call (place_of b) None (place_of b) (code_of tables everyone f) (place_of b) first
-            (function_by b outermost g.0 f.mode f.result f.name f.parameters f.body g.1 g.2 g.3 g.4 shaped.0
-            (front is_plain (operations (code_of tables everyone f)) (operations_in tables everyone fs) plain))
+            (function_by b outermost g.0 f.mode f.result f.name f.parameters f.body g.1 g.2 g.3 g.4 shaped.0)
         by false is others = others
 
     in_groups : (depth main binding : ℕ) (fs : List FunctionTree) → may_call true binding ≡ true → FunctionsInPlace tables may_call main fs → AllGiven (Group depth) true binding fs
@@ -187,19 +183,18 @@ module _ (tables : Tables) (may_call : (in_group : Bool) → (function : ℕ) �
     in_main main (f ∷ fs) h = ((λ e. let g = h.2 e in (true, g.0, refl, g.1, λ main' framed. absurd (true≢false (sym g.0 ∙ main')))), in_main main fs h.3)
 
 pub programs_are_led : ProgramsAreLed
-programs_are_led tables program may_call placed inner none plain shaped =
+programs_are_led tables program may_call placed inner none shaped =
     let fs = functions_of program.items in
     let main = main_of tables program in
     let unshared = called_alone tables may_call fs (λ s. NoneShared s.parameters) fs (none_shared tables may_call fs main fs placed.in_place) in
     let frameless = called_alone tables may_call fs (λ s. frame_at tables s.at 0 ≡ None) fs (none_framed tables may_call fs fs none inner) in
-    let each = each_of is_plain (operations_in tables fs fs) plain in
     record {
       shaped = shaped;
       in_group = λ depth function closed may.
-          bodies tables may_call fs unshared frameless (Group depth) true function fs 0 (in_groups tables may_call fs unshared frameless depth main function fs may placed.in_place) placed.shaped each;
+          bodies tables may_call fs unshared frameless (Group depth) true function fs 0 (in_groups tables may_call fs unshared frameless depth main function fs may placed.in_place) placed.shaped;
       in_root = λ function closed may.
-          bodies tables may_call fs unshared frameless Root true function fs 0 (in_bodies tables may_call fs unshared frameless Root refl main function fs may placed.in_place inner) placed.shaped each;
+          bodies tables may_call fs unshared frameless Root true function fs 0 (in_bodies tables may_call fs unshared frameless Root refl main function fs may placed.in_place inner) placed.shaped;
       in_body = λ depth function closed may.
-          bodies tables may_call fs unshared frameless (Body depth) true function fs 0 (in_bodies tables may_call fs unshared frameless (Body depth) refl main function fs may placed.in_place inner) placed.shaped each;
-      main_of = bodies tables may_call fs unshared frameless Main true main fs 0 (in_main tables may_call fs unshared frameless main fs placed.in_place) placed.shaped each;
+          bodies tables may_call fs unshared frameless (Body depth) true function fs 0 (in_bodies tables may_call fs unshared frameless (Body depth) refl main function fs may placed.in_place inner) placed.shaped;
+      main_of = bodies tables may_call fs unshared frameless Main true main fs 0 (in_main tables may_call fs unshared frameless main fs placed.in_place) placed.shaped;
     }

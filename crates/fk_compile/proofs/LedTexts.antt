@@ -24,8 +24,6 @@ use Rattle.fk_lockstep_structure.specs.Placed as w
 use Rattle.fk_lockstep_structure.specs.Placed.{Who, OfGroup, is_group, is_outermost, inner}
 use Rattle.fk_lockstep_structure.specs.InPlace.{Splits, Calls, InPlace, OptionInPlace, VariablesInPlace, NoneShared, StatementInPlace, StatementsInPlace}
 use Rattle.fk_lockstep_tree.specs.Leads.{Comes, Loop, turning, Quits, Leads}
-use Rattle.fk_compile_text.specs.Plain.{is_plain}
-use Rattle.fk_lower_laws.specs.AllOf.{AllOf}
 use Rattle.fk_compile.proofs.Wants as wants
 use Rattle.fk_compile.proofs.Wants.{Base, Main, Root, Group, Body, place_of, in_group, who_of, inner_is, group_is, group_of, keeps_at, IsLeft, LeftAt, Want, arm, within, end_of_part}
 use Rattle.fk_compile.proofs.Tests as by_test
@@ -181,7 +179,7 @@ module _ (tables : Tables) (functions : (binding : ℕ) → Signature) (may_call
   drops x at rest q = wants.drops tables functions may_call unshared frameless x at rest q
 
   performed : (x : Want) (op : Operation) → (wants.keeps op ≡ true) → (rest : Coded) → Fine x rest → (Shape x.part false x.exits (plain op rest) → Shape x.part false x.exits rest) → Fine x (plain op rest)
-  performed x op e rest q less = λ all shape. (place_of x.base, keeps_at x.base op e, q all.1 (less shape))
+  performed x op e rest q less = λ shape. (place_of x.base, keeps_at x.base op e, q (less shape))
 
   pushes : (x : Want) (n' : ℕ) → Keeps x (plain (o.Push n'))
   pushes x n' rest q = performed x (o.Push n') refl rest q (λ shape. shape.2)
@@ -228,12 +226,12 @@ module _ (tables : Tables) (functions : (binding : ℕ) → Signature) (may_call
 
   -- no code ends a part
   empty : (x : Want) → x.part ≡ true → Fine x done
-  empty x is = λ all shape. absurd (true≢false (sym is ∙ shape.1))
+  empty x is = λ shape. absurd (true≢false (sym is ∙ shape.1))
 
   -- tests of loops
   quits : (x : Want) (op : Operation)
       → ((left : Where) (shrinking : Bool) → is_shrink op ≡ shrinking → IsLeft shrinking x.base left → Quits (place_of x.base) left op) → Fine x (quit nowhere op done)
-  quits x op out = λ all shape.
+  quits x op out = λ shape.
       let loop = x.tests shape.3 in
       (loop.0, loop.1, out loop.0 x.exits.shrinking shape.4 loop.2, wants.ends_here tables functions may_call unshared frameless x shape.2)
 
@@ -251,33 +249,33 @@ module _ (tables : Tables) (functions : (binding : ℕ) → Signature) (may_call
 
   -- what stands behind a loop
   abbrev Onward : Want → (shrinking : Bool) → (left : Where) → Coded → Type 0
-  Onward x b left rest = AllOf is_plain rest → Either b ((x.part ≡ true) × (x.exits.tests ≡ false) × (rest ≡ done)) (Shape x.part false x.exits rest)
+  Onward x b left rest = Either b ((x.part ≡ true) × (x.exits.tests ≡ false) × (rest ≡ done)) (Shape x.part false x.exits rest)
       → Leads may_call x.function x.loop left rest (end_of_part x.base x.part)
 
   whiles : (x : Want) (b : Bool) (left : Where) (leaves : IsLeft b x.base left) (test body step rest : Coded) → by_test.EndsBy b test → Fine (test_of x b left leaves) test
       → Fine (turn_of x b left leaves) body → Fine (step_of x left) step → Onward x b left rest → Fine x (c.while test body step rest)
-  whiles x b left leaves test body step rest ended t u v q = λ all shape.
+  whiles x b left leaves test body step rest ended t u v q = λ shape.
       let same = ended shape.1 shape.2 in (
         left,
-        t all.0 (subst (λ s. Shape false false (of_test s) test) same shape.2),
-        u all.1 (subst (λ s. Shape false false (of_turn s x.exits) body) same shape.3),
-        v all.2 shape.4,
-        q all.3 (subst (λ s. Either s ((x.part ≡ true) × (x.exits.tests ≡ false) × (rest ≡ done)) (Shape x.part false x.exits rest)) same shape.5),
+        t (subst (λ s. Shape false false (of_test s) test) same shape.2),
+        u (subst (λ s. Shape false false (of_turn s x.exits) body) same shape.3),
+        v shape.4,
+        q (subst (λ s. Either s ((x.part ≡ true) × (x.exits.tests ≡ false) × (rest ≡ done)) (Shape x.part false x.exits rest)) same shape.5),
       )
 
   untils : (x : Want) (b : Bool) (left : Where) (leaves : IsLeft b x.base left) (body test rest : Coded) → by_test.EndsBy b test → Fine (turn_of x b left leaves) body
       → Fine (test_of x b left leaves) test → Onward x b left rest → Fine x (c.until body test rest)
-  untils x b left leaves body test rest ended u t q = λ all shape.
+  untils x b left leaves body test rest ended u t q = λ shape.
       let same = ended shape.1 shape.2 in (
         left,
-        u all.0 (subst (λ s. Shape false false (of_turn s x.exits) body) same shape.3),
-        t all.1 (subst (λ s. Shape false false (of_test s) test) same shape.2),
-        q all.2 (subst (λ s. Either s ((x.part ≡ true) × (x.exits.tests ≡ false) × (rest ≡ done)) (Shape x.part false x.exits rest)) same shape.4),
+        u (subst (λ s. Shape false false (of_turn s x.exits) body) same shape.3),
+        t (subst (λ s. Shape false false (of_test s) test) same shape.2),
+        q (subst (λ s. Either s ((x.part ≡ true) × (x.exits.tests ≡ false) × (rest ≡ done)) (Shape x.part false x.exits rest)) same shape.4),
       )
 
   -- all go on where they turned; the part of a private loop ends with it
   goes_on : (x : Want) (rest : Coded) → Fine x rest → Onward x false (place_of x.base) rest
-  goes_on x rest q = λ all shape. q all shape
+  goes_on x rest q = λ shape. q shape
 
   -- groups and bodies
   frames_in : (x : Want) → in_group x.base ≡ true → (spot : Spot) (part : ℕ) → Keeps x (part_frame tables functions spot part)
@@ -297,17 +295,17 @@ module _ (tables : Tables) (functions : (binding : ℕ) → Signature) (may_call
 
   -- ends of functions
   halts : (x : Want) (main framed : Bool) → w.is_main (who_of x.base x.outermost) ≡ main → MayLeave main framed x.function → Keeps x (ends nowhere (if main then o.Halt else o.Leave false framed))
-  halts x true framed e k rest q = λ all shape. (halts_in x.base x.outermost e, x.returns shape.2, q all.1 shape.3)
-  halts x false true e k rest q = λ all shape.
-      let group = k refl refl in (leaves_frame x.base false group.0 (x.returns shape.2 ∙ group.1), x.returns shape.2, q all.1 shape.3)
-  halts x false false e k rest q = λ all shape. (keeps_at x.base (o.Leave false false) refl, x.returns shape.2, q all.1 shape.3)
+  halts x true framed e k rest q = λ shape. (halts_in x.base x.outermost e, x.returns shape.2, q shape.3)
+  halts x false true e k rest q = λ shape.
+      let group = k refl refl in (leaves_frame x.base false group.0 (x.returns shape.2 ∙ group.1), x.returns shape.2, q shape.3)
+  halts x false false e k rest q = λ shape. (keeps_at x.base (o.Leave false false) refl, x.returns shape.2, q shape.3)
 
   gives_end : (x : Want) (main framed : Bool) → w.is_main (who_of x.base x.outermost) ≡ main → MayLeave main framed x.function → (rest : Coded) → Fine x rest
       → Fine x (if main then plain o.DropLast (ends nowhere o.Halt rest) else ends nowhere (o.Leave true framed) rest)
   gives_end x true framed e k rest q = performed x o.DropLast refl (ends nowhere o.Halt rest) (halts x true framed e k rest q) (λ shape. shape.2)
-  gives_end x false true e k rest q = λ all shape.
-      let group = k refl refl in (leaves_frame x.base true group.0 (x.returns shape.2 ∙ group.1), x.returns shape.2, q all.1 shape.3)
-  gives_end x false false e k rest q = λ all shape. (keeps_at x.base (o.Leave true false) refl, x.returns shape.2, q all.1 shape.3)
+  gives_end x false true e k rest q = λ shape.
+      let group = k refl refl in (leaves_frame x.base true group.0 (x.returns shape.2 ∙ group.1), x.returns shape.2, q shape.3)
+  gives_end x false false e k rest q = λ shape. (keeps_at x.base (o.Leave true false) refl, x.returns shape.2, q shape.3)
 
   returns : (x : Want) (inside : Inside) → w.is_main (who_of x.base x.outermost) ≡ inside.main → MayLeave inside.main inside.framed x.function
       → (e : Option Tree) → TellsIf x e → Keeps x (left_by tables functions inside e)
@@ -321,16 +319,16 @@ module _ (tables : Tables) (functions : (binding : ℕ) → Signature) (may_call
   starts x first body rest p' q =
       let root = begins_in x.base x.outermost first in
       let e = end_of_part x.base x.part in
-      λ all shape.
+      λ shape.
       let behind : Leads may_call x.function x.loop (Waits 0) (plain o.Resume rest) e
-      = (InRoot, (λ way. refl), subst (λ (at : Where). Leads may_call x.function x.loop at rest e) root (q all.3.1 shape.6.2)) in (
+      = (InRoot, (λ way. refl), subst (λ (at : Where). Leads may_call x.function x.loop at rest e) root (q shape.6.2)) in (
         InGroup 0,
         Waits 0,
         Waits 0,
         Waits 0,
         subst (λ (at : Where). goes at o.Begin true ≡ Some (InGroup 0)) (sym root) refl,
         subst (λ (at : Where). goes at o.Begin false ≡ Some (Waits 0)) (sym root) refl,
-        p' all.1 shape.2,
+        p' shape.2,
         refl,
         behind,
         behind,
@@ -338,13 +336,13 @@ module _ (tables : Tables) (functions : (binding : ℕ) → Signature) (may_call
 
   -- `farm` and `seq`
   opens : (x : Want) (n' : ℕ) → x.base ≡ Group n' → (op : Operation) → goes (InGroup n') op true ≡ Some (InBody n') → goes (InGroup n') op false ≡ Some (BehindBody n') → (body rest : Coded)
-      → (AllOf is_plain (choose nowhere op body done (plain (o.Meet true) rest)) → Shape x.part false x.exits (choose nowhere op body done (plain (o.Meet true) rest))
+      → (Shape x.part false x.exits (choose nowhere op body done (plain (o.Meet true) rest))
       → Leads may_call x.function x.loop (InBody n') body (InBody n') × Leads may_call x.function x.loop (place_of x.base) rest (end_of_part x.base x.part))
       → Fine x (choose nowhere op body done (plain (o.Meet true) rest))
   opens x n' group op on aside body rest parts =
       let e = end_of_part x.base x.part in
-      λ all shape.
-      let both = parts all shape in
+      λ shape.
+      let both = parts shape in
       let more = subst (λ (b : Base). Leads may_call x.function x.loop (place_of b) rest e) group both.1 in (
         InBody n',
         BehindBody n',
@@ -359,16 +357,13 @@ module _ (tables : Tables) (functions : (binding : ℕ) → Signature) (may_call
       )
 
   farms : (x : Want) (n' : ℕ) → x.base ≡ Group n' → (body rest : Coded) → Fine (body_of_group x n') body → Fine x rest → Fine x (choose nowhere o.Farm body done (plain (o.Meet true) rest))
-  farms x n' group body rest p' q = opens x n' group o.Farm refl refl body rest (λ all shape. (p' all.1 shape.2, q all.3.1 shape.6.2))
+  farms x n' group body rest p' q = opens x n' group o.Farm refl refl body rest (λ shape. (p' shape.2, q shape.6.2))
 
   seqs : (x : Want) (n' : ℕ) → x.base ≡ Group n' → (body rest : Coded) → Fine (body_of_group x n') body → Fine x rest → Fine x (choose nowhere o.Seq body done (plain (o.Meet true) rest))
-  seqs x n' group body rest p' q = opens x n' group o.Seq refl refl body rest (λ all shape. (p' all.1 shape.2, q all.3.1 shape.6.2))
+  seqs x n' group body rest p' q = opens x n' group o.Seq refl refl body rest (λ shape. (p' shape.2, q shape.6.2))
 
   barriers : (x : Want) → in_group x.base ≡ false → Keeps x (plain (o.Meet false))
-  barriers x g rest q = λ all shape. (place_of x.base, meets_in x.base g, q all.1 shape.2)
-
-  forks : (x : Want) (spot : Spot) (body rest : Coded) → Fine x (choose spot.place (o.Split Fork) body done (plain o.Resume rest))
-  forks x spot body rest = λ all shape. untrue all.0
+  barriers x g rest q = λ shape. (place_of x.base, meets_in x.base g, q shape.2)
 
   -- statements
   abbrev There : (main : Bool) → Want → Statement → Type 0
@@ -459,7 +454,7 @@ module _ (tables : Tables) (functions : (binding : ℕ) → Signature) (may_call
         (tests (test_of y true (Waits (suc n')) leaves) spot (Some condition) (splits_within x n' group spot splits) (told_within x n' group (Some condition) told))
         (statement (turn_of y true (Waits (suc n')) leaves) inside k body (in_part inside.main x n' group body h.2) done
         (wants.ended tables functions may_call unshared frameless (turn_of y true (Waits (suc n')) leaves)))
-        (wants.ended tables functions may_call unshared frameless (step_of y (Waits (suc n')))) (λ all shape. refl))
+        (wants.ended tables functions may_call unshared frameless (step_of y (Waits (suc n')))) (λ shape. refl))
         (λ is others more.
         let at = place_of x.base in
         whiles x false at refl test run done others (ends_by x spot (Some condition) told false is) (tests (test_of x false at refl) spot (Some condition) splits told)
@@ -478,7 +473,7 @@ module _ (tables : Tables) (functions : (binding : ℕ) → Signature) (may_call
         (statement (turn_of y true (Waits (suc n')) leaves) inside k body (in_part inside.main x n' group body h.2) done
         (wants.ended tables functions may_call unshared frameless (turn_of y true (Waits (suc n')) leaves)))
         (tests (test_of y true (Waits (suc n')) leaves) spot (Some condition) (splits_within x n' group spot splits) (told_within x n' group (Some condition) told))
-        (λ all shape. refl))
+        (λ shape. refl))
         (λ is others more.
         let at = place_of x.base in
         untils x false at refl run test others (ends_by x spot (Some condition) told false is)
@@ -501,7 +496,7 @@ module _ (tables : Tables) (functions : (binding : ℕ) → Signature) (may_call
         (statement (turn_of y true (Waits (suc n')) leaves) inside k body (in_part inside.main x n' group body h.4) done
         (wants.ended tables functions may_call unshared frameless (turn_of y true (Waits (suc n')) leaves)))
         (uses_or (step_of y (Waits (suc n'))) after (told_within x n' group after told_after) done (wants.ended tables functions may_call unshared frameless (step_of y (Waits (suc n')))))
-        (λ all shape. refl))
+        (λ shape. refl))
         (λ is others more.
         let at = place_of x.base in
         whiles x false at refl test run step others (ends_by x spot condition told false is) (tests (test_of x false at refl) spot condition splits told)
@@ -515,13 +510,18 @@ module _ (tables : Tables) (functions : (binding : ℕ) → Signature) (may_call
         (frames_in (start_of x) refl spot 0 (executed tables functions inside body (plain o.End done))
         (statement (start_of x) inside k body h.2 (plain o.End done) (wants.part_ended tables functions may_call unshared frameless (start_of x)))) q)
     statement x inside k (p.Fork spot parts part rank body) h rest q =
-        let divided = choose spot.place (o.Split Fork) (part_frame tables functions spot 0 (executed tables functions inside body (plain o.End done))) done (plain o.Resume rest) in
+        let group = group_of x.base (group_there x h.0) in
+        let y = within x group.0 true in
+        let run = executed tables functions inside body (plain o.End done) in
+        let divided = choose spot.place (o.Split Fork) (part_frame tables functions spot 0 run) done (plain o.Resume rest) in
         let ranked = value_or tables functions (plain (o.Get own.Rank)) rank divided in
         gives x parts (told_there x parts h.1) (plain o.Agree (value tables functions part ranked))
         (wants.agrees tables functions may_call unshared frameless x (group_there x h.0) (value tables functions part ranked)
         (gives x part (told_there x part h.2) ranked
         (gives_or x (plain (o.Get own.Rank)) (λ rest' q'. performed x (o.Get own.Rank) refl rest' q' (λ shape. shape.2)) rank (told_if x rank h.3) divided
-        (forks x spot (part_frame tables functions spot 0 (executed tables functions inside body (plain o.End done))) rest))))
+        (divides x group.0 group.1 spot Fork (part_frame tables functions spot 0 run) done rest
+        (frames_in y refl spot 0 run (statement y inside k body h.4 (plain o.End done) (wants.part_ended tables functions may_call unshared frameless y)))
+        (empty y refl) q))))
     statement x inside k (p.Farm spot body) h rest q =
         let group = group_of x.base (group_there x h.0) in
         let y = body_of_group x group.0 in
@@ -533,8 +533,8 @@ module _ (tables : Tables) (functions : (binding : ℕ) → Signature) (may_call
         seqs x group.0 group.1 (executed tables functions inside body done) rest
         (statement y inside k body h.1 done (wants.ended tables functions may_call unshared frameless y)) q
     statement x inside k (p.Barrier spot) h rest q = barriers x (sym (group_is x.base x.outermost) ∙ h) rest q
-    statement x inside k (p.Break spot) h rest q = λ all shape. (let loop = x.breaks shape.1 in (loop.0, loop.1, q all shape.2))
-    statement x inside k (p.Continue spot) h rest q = λ all shape. (let loop = x.continues shape.1 in (loop.0, loop.1, q all shape.2))
+    statement x inside k (p.Break spot) h rest q = λ shape. (let loop = x.breaks shape.1 in (loop.0, loop.1, q shape.2))
+    statement x inside k (p.Continue spot) h rest q = λ shape. (let loop = x.continues shape.1 in (loop.0, loop.1, q shape.2))
     statement x inside k (p.Return spot e) h rest q = returns x inside h.0 k e (told_if x e h.1) rest q
 
     all_statements : (x : Want) (inside : Inside) → MayLeave inside.main inside.framed x.function → (statements : Statements) → StatementsInPlace tables may_call inside.main (who_of x.base x.outermost) statements

@@ -10,7 +10,7 @@ pub mod Sites
 mod Small
 mod Aims
 mod Blocks
-mod PlainLists
+mod ListLaws
 -- levels of a list have room in its frames
 mod Rooms
 -- processors stay in the tree of groups

@@ -21,7 +21,6 @@ use Rattle.fk_parse_laws.specs.Words.{TextsHaveWords}
 use Rattle.fk_check_laws.specs.Correct.{IsCorrect}
 use Rattle.fk_check_laws.specs.Laws.{CorrectProgramsFit}
 use Rattle.fk_lower_laws.specs.LoweringLaws.{IsKnownOf}
-use Rattle.fk_compile_text.specs.Plain.{ArePlain}
 use Rattle.fk_compile_text.specs.Text.{IsChecked}
 use Rattle.fk_lower_names.specs.Proper.{TextsAreProper}
 use Rattle.fk_lower_names.specs.WordLaws.{NumbersHaveRoom}
@@ -29,11 +28,11 @@ use Rattle.fk_lower.specs.Depths.{AreTold}
 use Rattle.fk_lower_text.specs.Depths.{depths_of}
 use Rattle.fk_lower_laws.specs.Laws.{LoweredListsCanHaveGroups, count_of_file}
 use Rattle.fk_compile.specs.OneProgram.{IsLaidOut}
-use Rattle.fk_compile.specs.PlainLists.{PlainListsHaveBlocks}
+use Rattle.fk_compile.specs.ListLaws.{ListsHaveBlocks}
 use Rattle.fk_compile.specs.Trees.{ListsAreOfTree}
 use Rattle.fk_compile.specs.Lists.{HasListOf, IsGrouped}
 
--- what is so of a text that is built, where this is known of it
+-- what is so of a text that has a layout, where this is known of it
 pub record IsPrepared (program : ProgramTree) (facts : Facts) (known : ProgramTables) : Type 0 where
   pub of : IsKnownOf program facts known
   pub laid : IsLaidOut program facts
@@ -73,18 +72,18 @@ module _ (program : ProgramTree) (facts : Facts) (known : ProgramTables) (p : Is
       (subst (λ (t : Tables). length (sites_in t (functions_of program.items) (functions_of program.items)) ≤ 16000) (sym p.of.tables) p.laid.fits.sites)
 
   -- and its list keeps its processors in the tree of groups
-  pub grouped_list : LoweredListsCanHaveGroups → PlainListsHaveBlocks → ListsAreOfTree → ArePlain (tables_by program facts) program
+  pub grouped_list : LoweredListsCanHaveGroups → ListsHaveBlocks → ListsAreOfTree
       → (core : List CoreOp) (main : ℕ) → HasListOf (tables_of known) program core main → HasSites known core → AreTold (depths_of known (functions_in known)) core
       → IsGrouped core main (count_of_file program facts)
-  grouped_list can_have have_blocks are_of_tree plain core main list sites told =
+  grouped_list can_have have_blocks are_of_tree core main list sites told =
       let tables = tables_by program facts in
       let own = subst (λ (t : Tables). HasListOf t program core main) p.of.tables list in
-      let can = can_have program facts known p.of p.laid.correct p.laid.trim p.laid.proper p.laid.fits plain core own.entry own.flat told in
+      let can = can_have program facts known p.of p.laid.correct p.laid.trim p.laid.proper p.laid.fits core own.entry own.flat told in
       subst (λ (m : ℕ). IsGrouped core m (count_of_file program facts)) (sym own.begins)
       (record {
         can = can;
-        blocks = have_blocks (bodies_of tables program) core own.entry p.shaped own.flat can.steady.plain can.steady.within.leads;
-        tree = are_of_tree program facts known p.of p.laid plain core own.entry own.flat told sites;
+        blocks = have_blocks (bodies_of tables program) core own.entry p.shaped own.flat can.steady.within.leads;
+        tree = are_of_tree program facts known p.of p.laid core own.entry own.flat told sites;
       })
 
 -- what is so of what is answered

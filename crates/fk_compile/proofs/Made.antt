@@ -27,7 +27,7 @@ use Rattle.fk_sim_block.specs.Law.{GroupLaw}
 use Rattle.fk_gen_list.specs.Cycles.{cycles_of}
 use Rattle.fk_gen_list.specs.Laws.{nestings_of}
 use Rattle.fk_gen_list.specs.Whole.{GivesGroupLaw}
-use Rattle.fk_compile.specs.PlainLists.{StepsFindValues}
+use Rattle.fk_compile.specs.ListLaws.{StepsFindValues}
 use Rattle.fk_sim_runs.specs.Follow.{CarriesTrees}
 use Rattle.fk_core_levels.specs.Forks.{level_forks}
 use Rattle.fk_core_levels.proofs.Lasts.{levels_tell_forks}

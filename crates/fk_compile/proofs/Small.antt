@@ -13,7 +13,7 @@ use Rattle.fk_core.specs.Numbers.{operation_of}
 use Rattle.fk_core_flat.specs.Items.{Item, jump, act, into, IsItem, Has, acts, jumps, calls, one_call, way_of}
 use Rattle.fk_layout_walk_statements.specs.Texts.{sites_of_text}
 use Rattle.fk_gen_list.specs.Generable.{words_by, most_words}
-use Rattle.fk_compile.specs.PlainLists.{ListsAreSmall}
+use Rattle.fk_compile.specs.ListLaws.{ListsAreSmall}
 
 -- a list and its items, one beside the other
 abbrev Beside : List CoreOp → List Item → Type 0

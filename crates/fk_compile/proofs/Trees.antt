@@ -23,7 +23,7 @@ use Rattle.fk_compile.proofs.Sites.{sites_are_own}
 use Rattle.fk_compile.specs.Trees.{ProgramsStayInTrees, ListsAreOfTree}
 
 pub programs_stay_in_trees : ProgramsStayInTrees
-programs_stay_in_trees program facts laid plain core entry flat own local =
+programs_stay_in_trees program facts laid core entry flat own local =
     let tables = tables_by program facts in
     let bodies = bodies_of tables program in
     let main = main_of tables program in
@@ -34,7 +34,7 @@ programs_stay_in_trees program facts laid plain core entry flat own local =
     let shaped = forms_are_shaped tables program (correct_programs_fit program facts laid.correct laid.trim) in
     let stands = flat_lists_have_code tables program core entry shaped flat in
     lists_stay_in_trees (may_call program) bodies core entry main (fork_counts (gives_of tables program (may_call program) placed)) stands.leads_on stands.stands own local
-    (programs_are_led tables program (may_call program) placed inner none plain shaped) (programs_follow tables program (may_call program) placed)
+    (programs_are_led tables program (may_call program) placed inner none shaped) (programs_follow tables program (may_call program) placed)
     (none_pending tables program (may_call program) placed) (programs_are_counted tables program (may_call program) placed)
     (code_is_framed (may_call program) bodies main (programs_are_framed tables program (may_call program) placed inner none))
 
@@ -45,9 +45,9 @@ told_nest (l ∷ saved) zero n e = cc
 told_nest (l ∷ saved) (suc i) n e = told_nest saved i n e
 
 pub lists_are_of_tree : ListsAreOfTree
-lists_are_of_tree program facts known of_program laid plain core entry flat told sites saved are start =
+lists_are_of_tree program facts known of_program laid core entry flat told sites saved are start =
     let tables = tables_by program facts in
-    let can = lowered_lists_can_have_groups program facts known of_program laid.correct laid.trim laid.proper laid.fits plain core entry flat told in
+    let can = lowered_lists_can_have_groups program facts known of_program laid.correct laid.trim laid.proper laid.fits core entry flat told in
     let stands = flat_lists_have_code tables program core entry (forms_are_shaped tables program (correct_programs_fit program facts laid.correct laid.trim)) flat in
     record {
       begins = can.steady.within.begins;
@@ -59,7 +59,7 @@ lists_are_of_tree program facts known of_program laid plain core entry flat told
       forks = λ i level lt less.
           let many = told_count saved i _ (ap (λ (ns : List ℕ). slice_get ns i) are.count ∙ can.nests.levels.levels i lt) in
           can.nests.levels.forks i level lt (omega (arith, less, many));
-      in_tree = programs_stay_in_trees program facts laid plain core entry flat (sites_are_own known core sites) can.nests.local;
+      in_tree = programs_stay_in_trees program facts laid core entry flat (sites_are_own known core sites) can.nests.local;
       well_formed = record { leads_on = stands.leads_on; depths = can.depths };
       may = can.steady.may;
     }

@@ -29,8 +29,6 @@ use Rattle.fk_lockstep_structure.specs.Placed.{Who, OfGroup, OfBody, OfMain, is_
 use Rattle.fk_lockstep_structure.specs.InPlace.{Splits, Calls, InPlace, NoneShared}
 use Rattle.fk_lockstep_structure.proofs.Behind.{either_no}
 use Rattle.fk_lockstep_tree.specs.Leads.{is_in_group, Comes, Loop, turning, Leads}
-use Rattle.fk_compile_text.specs.Plain.{is_plain}
-use Rattle.fk_lower_laws.specs.AllOf.{AllOf}
 
 -- who runs code: processors by themselves in `main`, or in a function that is called in the root; a group, with so many groups around it;
 -- or the processors of a group by themselves, in its body
@@ -236,16 +234,16 @@ inside w = record { want = w.want; inner = true }
 module _ (tables : Tables) (functions : (binding : ℕ) → Signature) (may_call : (in_group : Bool) → (function : ℕ) → Bool)
     (unshared : (binding : ℕ) → may_call false binding ≡ true → NoneShared (functions binding).parameters)
     (frameless : (binding : ℕ) → may_call false binding ≡ true → frame_at tables (functions binding).at 0 ≡ None) where
-  -- code of the right shape without a `fork` leads
+  -- code of the right shape leads
   abbrev pub Fine : Want → Coded → Type 0
-  Fine w code = AllOf is_plain code → Shape w.part false w.exits code → Leads may_call w.function w.loop (place_of w.base) code (end_of_part w.base w.part)
+  Fine w code = Shape w.part false w.exits code → Leads may_call w.function w.loop (place_of w.base) code (end_of_part w.base w.part)
 
   pub ends_here : (w : Want) → w.part ≡ false → place_of w.base ≡ end_of_part w.base w.part
   ends_here w e = sym (ap (λ b. if b then waiting_of w.base else place_of w.base) e)
 
   -- what a group does in its group
   in_its_group : (w : Want) (t : Place) (op : Operation) → ((n : ℕ) → Comes (InGroup n) op (InGroup n)) → ends_part op ≡ false → in_group w.base ≡ true → (rest : Coded) → Fine w rest → Fine w (perform t op rest)
-  in_its_group w t op comes no_part g rest p = λ all shape. (place_of w.base, by w.base g, p all.1 (either_no (ends_part op) _ _ shape.2 no_part))
+  in_its_group w t op comes no_part g rest p = λ shape. (place_of w.base, by w.base g, p (either_no (ends_part op) _ _ shape.2 no_part))
     where
       by : (b : Base) → in_group b ≡ true → Comes (place_of b) op (place_of b)
       by Main f = untrue f
@@ -271,20 +269,20 @@ module _ (tables : Tables) (functions : (binding : ℕ) → Signature) (may_call
   agreed_there w at splits is = splits.1 is
 
   pub performs : (w : Want) (t : Place) (op : Operation) (rest : Coded) → k.is_quiet op ≡ true → Fine w rest → Fine w (perform t op rest)
-  performs w t op rest e p = λ all shape. (place_of w.base, keeps_at w.base op (keeps_of op e), p all.1 (either_no (ends_part op) _ _ shape.2 (no_end op e)))
+  performs w t op rest e p = λ shape. (place_of w.base, keeps_at w.base op (keeps_of op e), p (either_no (ends_part op) _ _ shape.2 (no_end op e)))
 
   pub chooses : (w : Want) (t : Place) (on : Bool) (a b rest : Coded) → Fine (arm w) a → Fine (arm w) b → Fine w rest → Fine w (choose t (o.Branch on) a b rest)
-  chooses w t on a b rest p q r = λ all shape. (
+  chooses w t on a b rest p q r = λ shape. (
     place_of w.base,
     place_of w.base,
     place_of w.base,
     place_of w.base,
     keeps_at w.base (o.Branch on) refl true,
     keeps_at w.base (o.Branch on) refl false,
-    p all.1 shape.2,
-    q all.2 shape.3,
-    r all.3 shape.6,
-    r all.3 shape.6,
+    p shape.2,
+    q shape.3,
+    r shape.6,
+    r shape.6,
   )
 
   branches : (w : Want) (spot : Spot) (onward : Bool) (a b rest : Coded) → Splits tables may_call (in_group w.base) spot.at → Fine (arm w) a → Fine (arm w) b → Fine w rest
@@ -301,42 +299,42 @@ module _ (tables : Tables) (functions : (binding : ℕ) → Signature) (may_call
       (InGroup n, (λ way. refl), subst (λ (b : Base). Leads may_call w.function w.loop (place_of b) rest (end_of_part w.base w.part)) e p)
 
   -- a split into one part, for which the others wait; and into two
-  divides_once : (w : Want) (n : ℕ) → w.base ≡ Group n → (t : Place) (by : SplitKind) → has_two_parts (o.Split by) ≡ false → waits (o.Split by) ≡ true → is_plain (o.Split by) ≡ true
+  divides_once : (w : Want) (n : ℕ) → w.base ≡ Group n → (t : Place) (by : SplitKind) → has_two_parts (o.Split by) ≡ false → waits (o.Split by) ≡ true
       → (a b rest : Coded) → Fine (within w n true) a → Fine w rest → Fine w (choose t (o.Split by) a b (plain o.Resume rest))
-  divides_once w n e t by one waiting built a b rest p r = λ all shape.
-      let behind = resumes w n e rest (r all.3.1 shape.6.2) in (
+  divides_once w n e t by one waiting a b rest p r = λ shape.
+      let behind = resumes w n e rest (r shape.6.2) in (
         InGroup (suc n),
         Waits (suc n),
         Waits (suc n),
         Waits (suc n),
-        subst (λ (base : Base). goes (place_of base) (o.Split by) true ≡ Some (InGroup (suc n))) (sym e) (enters by one built),
-        subst (λ (base : Base). goes (place_of base) (o.Split by) false ≡ Some (Waits (suc n))) (sym e) (remains by one built),
-        p all.1 shape.2,
+        subst (λ (base : Base). goes (place_of base) (o.Split by) true ≡ Some (InGroup (suc n))) (sym e) (enters by one),
+        subst (λ (base : Base). goes (place_of base) (o.Split by) false ≡ Some (Waits (suc n))) (sym e) (remains by one),
+        p shape.2,
         subst (λ (code : Coded). Leads may_call w.function w.loop (Waits (suc n)) code (Waits (suc n))) (sym (shape.4 waiting)) refl,
         behind,
         behind,
       )
     where
-      enters : (by' : SplitKind) → has_two_parts (o.Split by') ≡ false → is_plain (o.Split by') ≡ true → goes (InGroup n) (o.Split by') true ≡ Some (InGroup (suc n))
-      enters sk.IfAlone f g = refl
-      enters sk.IfElse f g = absurd (true≢false f)
-      enters sk.AndThen f g = refl
-      enters sk.OrElse f g = refl
-      enters sk.Loop f g = refl
-      enters sk.Fork f g = untrue g
+      enters : (by' : SplitKind) → has_two_parts (o.Split by') ≡ false → goes (InGroup n) (o.Split by') true ≡ Some (InGroup (suc n))
+      enters sk.IfAlone f = refl
+      enters sk.IfElse f = absurd (true≢false f)
+      enters sk.AndThen f = refl
+      enters sk.OrElse f = refl
+      enters sk.Loop f = refl
+      enters sk.Fork f = refl
 
-      remains : (by' : SplitKind) → has_two_parts (o.Split by') ≡ false → is_plain (o.Split by') ≡ true → goes (InGroup n) (o.Split by') false ≡ Some (Waits (suc n))
-      remains sk.IfAlone f g = refl
-      remains sk.IfElse f g = absurd (true≢false f)
-      remains sk.AndThen f g = refl
-      remains sk.OrElse f g = refl
-      remains sk.Loop f g = refl
-      remains sk.Fork f g = untrue g
+      remains : (by' : SplitKind) → has_two_parts (o.Split by') ≡ false → goes (InGroup n) (o.Split by') false ≡ Some (Waits (suc n))
+      remains sk.IfAlone f = refl
+      remains sk.IfElse f = absurd (true≢false f)
+      remains sk.AndThen f = refl
+      remains sk.OrElse f = refl
+      remains sk.Loop f = refl
+      remains sk.Fork f = refl
 
   divides_twice : (w : Want) (n : ℕ) → w.base ≡ Group n → (t : Place) (a b rest : Coded) → Fine (within w n true) a → Fine (within w n true) b → Fine w rest
       → Fine w (choose t (o.Split sk.IfElse) a b (plain o.Resume rest))
-  divides_twice w n e t a b rest p q r = λ all shape.
-      let behind = resumes w n e rest (r all.3.1 shape.6.2) in
+  divides_twice w n e t a b rest p q r = λ shape.
+      let behind = resumes w n e rest (r shape.6.2) in
       let enters = λ (way : Bool). subst (λ (base : Base). goes (place_of base) (o.Split sk.IfElse) way ≡ Some (InGroup (suc n))) (sym e) refl in (
         InGroup (suc n),
         InGroup (suc n),
@@ -344,26 +342,26 @@ module _ (tables : Tables) (functions : (binding : ℕ) → Signature) (may_call
         Waits (suc n),
         enters true,
         enters false,
-        p all.1 shape.2,
-        q all.2 shape.3,
+        p shape.2,
+        q shape.3,
         behind,
         behind,
       )
 
   pub divides : (w : Want) (n : ℕ) → w.base ≡ Group n → (t : Place) (by : SplitKind) (a b rest : Coded) → Fine (within w n true) a → Fine (within w n true) b → Fine w rest
       → Fine w (choose t (o.Split by) a b (plain o.Resume rest))
-  divides w n e t sk.IfAlone a b rest p q r = divides_once w n e t sk.IfAlone refl refl refl a b rest p r
+  divides w n e t sk.IfAlone a b rest p q r = divides_once w n e t sk.IfAlone refl refl a b rest p r
   divides w n e t sk.IfElse a b rest p q r = divides_twice w n e t a b rest p q r
-  divides w n e t sk.AndThen a b rest p q r = divides_once w n e t sk.AndThen refl refl refl a b rest p r
-  divides w n e t sk.OrElse a b rest p q r = divides_once w n e t sk.OrElse refl refl refl a b rest p r
-  divides w n e t sk.Loop a b rest p q r = divides_once w n e t sk.Loop refl refl refl a b rest p r
-  divides w n e t sk.Fork a b rest p q r = λ all shape. untrue all.0
+  divides w n e t sk.AndThen a b rest p q r = divides_once w n e t sk.AndThen refl refl a b rest p r
+  divides w n e t sk.OrElse a b rest p q r = divides_once w n e t sk.OrElse refl refl a b rest p r
+  divides w n e t sk.Loop a b rest p q r = divides_once w n e t sk.Loop refl refl a b rest p r
+  divides w n e t sk.Fork a b rest p q r = divides_once w n e t sk.Fork refl refl a b rest p r
 
   pub ended : (w : Want) → Fine w done
-  ended w = λ all shape. ends_here w shape.1
+  ended w = λ shape. ends_here w shape.1
 
   pub part_ended : (w : Want) → Fine w (plain o.End done)
-  part_ended w = λ all shape.
+  part_ended w = λ shape.
       let group = w.parted shape.2.0 in (
         Waits group.0,
         subst (λ (b : Base). Comes (place_of b) o.End (Waits group.0)) (sym group.1) (λ way. refl),
@@ -408,12 +406,12 @@ module _ (tables : Tables) (functions : (binding : ℕ) → Signature) (may_call
   enters : (w : Want) (name : Named) (rest : Coded) → Calls tables may_call (in_group w.base) name → Fine w rest → Fine w (entered tables functions name rest)
   enters w name rest means p =
       let function = functions (note tables name.at).binding in
-      λ all shape. (
+      λ shape. (
         keeps_at w.base (o.Enter (length function.parameters)) refl,
         subst (λ b. may_call b (note tables name.at).binding ≡ true) (sym (called_in w.base)) means.0,
         opens_framed w.base (frame_at tables function.at 0) name.place 0 function.parameters
             (λ alone. frameless (note tables name.at).binding (subst (λ b. may_call b (note tables name.at).binding ≡ true) alone means.0)),
-        p all.2 shape.3,
+        p shape.3,
       )
 
   -- ---- all arms and parts that may stand in code

@@ -14,7 +14,6 @@ use Rattle.fk_layout.specs.declared.listed.Site.{Site}
 use Rattle.fk_image.specs.declared.Image.{Image}
 use Rattle.fk_image.specs.Limits.{IsWithinLimits}
 use Rattle.fk_sim_rounds.specs.Follows.{IsInput, Follows}
-use Rattle.fk_compile_text.specs.Plain.{ArePlain}
 use Rattle.fk_compile_text.specs.Text.{IsChecked}
 
 -- A site of a text, as an image has it: its kind, line and column.
@@ -42,13 +41,12 @@ pub record IsFaithfulTo (program : ProgramTree) (facts : Facts) (image : Image) 
       (program_opening (tables_by program facts) program (words_by program facts)
       (firsts_by program facts) input p)
 
--- the text isn't too long and keeps all rules, its operations are few enough and all built, its
--- frames and shared variables are small enough, and the image is faithful to it
+-- the text isn't too long and keeps all rules, its operations are few enough, its frames and shared
+-- variables are small enough, and the image is faithful to it
 pub record IsFaithful (source : List ℕ) (image : Image) : Type 0 where
   pub short : length source ≤ most_text_bytes
   pub program : ProgramTree
   pub facts : Facts
   pub checked : IsChecked source program facts
   pub fits : Fits (tables_by program facts) program.items
-  pub built : ArePlain (tables_by program facts) program
   pub faithful : IsFaithfulTo program facts image

@@ -1,4 +1,4 @@
--- The code of programs in place that have no `fork`.
+-- The code of programs in place.
 use Rattle.std.specs.Prelude.{◌≡◌, ℕ, Bool, None}
 use Rattle.fk_syntax.specs.Program.{ProgramTree}
 use Rattle.fk_meaning_forms.specs.Tables.{Tables, frame_at}
@@ -7,7 +7,6 @@ use Rattle.fk_core_flat.specs.Laws.{AreShaped}
 use Rattle.fk_lockstep_structure.specs.InPlace.{IsInPlace}
 use Rattle.fk_lockstep_structure.specs.Inner.{FunctionsInner}
 use Rattle.fk_lockstep_tree.specs.Led.{AreLed}
-use Rattle.fk_compile_text.specs.Plain.{ArePlain}
 
 -- It leads each processor from place to place, if only groups call functions with a frame.
 abbrev pub ProgramsAreLed : Type 0
@@ -16,6 +15,5 @@ ProgramsAreLed =
     → IsInPlace tables program may_call
     → FunctionsInner tables may_call (functions_of program.items)
     → frame_at tables no_signature.at 0 ≡ None
-    → ArePlain tables program
     → AreShaped (bodies_of tables program)
     → AreLed may_call (bodies_of tables program) (main_of tables program)

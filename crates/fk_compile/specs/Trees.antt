@@ -21,20 +21,18 @@ use Rattle.fk_lockstep_tree.specs.Runs.{AlwaysInTree}
 use Rattle.fk_lockstep_tree.specs.Lists.{HasOwnSites}
 use Rattle.fk_sim_block.specs.Node.{Gathering}
 use Rattle.fk_sim_runs.specs.Lists.{IsOfTree}
-use Rattle.fk_compile_text.specs.Plain.{ArePlain}
 use Rattle.fk_lower_laws.specs.LoweringLaws.{IsKnownOf}
 use Rattle.fk_compile.specs.OneProgram.{IsLaidOut}
 
 abbrev pub SitesAreOwn : Type 0
 SitesAreOwn = (known : ProgramTables) (core : List CoreOp) → HasSites known core → HasOwnSites core
 
--- In each run of the list of a program without a `fork`, processors stay in the tree of groups.
+-- In each run of the list of a program, processors stay in the tree of groups.
 abbrev pub ProgramsStayInTrees : Type 0
 ProgramsStayInTrees =
     (program : ProgramTree) (facts : Facts) → IsLaidOut program facts
     → let tables = tables_by program facts in
-    ArePlain tables program
-    → (core : List CoreOp) (entry : (binding : ℕ) → ℕ)
+    (core : List CoreOp) (entry : (binding : ℕ) → ℕ)
     → IsFlat (bodies_of tables program) core entry → HasOwnSites core
     → HasLocalFrames core (entry (main_of tables program))
     → AlwaysInTree (next core) (λ w. landing core w.at)
@@ -46,8 +44,7 @@ ListsAreOfTree =
     (program : ProgramTree) (facts : Facts) (known : ProgramTables) → IsKnownOf program facts known
     → IsLaidOut program facts
     → let tables = tables_by program facts in
-    ArePlain tables program
-    → (core : List CoreOp) (entry : (binding : ℕ) → ℕ)
+    (core : List CoreOp) (entry : (binding : ℕ) → ℕ)
     → IsFlat (bodies_of tables program) core entry
     → AreTold (depths_of known (functions_in known)) core → HasSites known core
     → (saved : List Levels) → AreLevels core saved → (start : Gathering)

@@ -1,4 +1,4 @@
-//! Laws of texts without a `fork`, of their lists, and of their images.
+//! Laws of texts, of their lists, and of their images.
 
 ghost use Rattle.fk_compile.specs.Led.{ProgramsAreLed};
 ghost use Rattle.fk_compile.specs.OneProgram.{AskedEvaluates, TypedEvaluates, ForksGiveValues};
@@ -6,15 +6,15 @@ ghost use Rattle.fk_compile.specs.OneProgram.{CorrectProgramsHaveOneProgram, Tex
 ghost use Rattle.fk_compile.specs.OneProgram.{TextsHaveOneSpace};
 ghost use Rattle.fk_compile.specs.GroupSteps.{TextsStepAsOne};
 ghost use Rattle.fk_compile.specs.Trees.{SitesAreOwn, ProgramsStayInTrees, ListsAreOfTree};
-ghost use Rattle.fk_compile.specs.PlainLists.{StraightHasNoTarget, PlainListsHaveBlocks};
-ghost use Rattle.fk_compile.specs.PlainLists.{StepsFindValues, GroupedListsAreGenerable};
-ghost use Rattle.fk_compile.specs.PlainLists.{ListsAreSmall};
+ghost use Rattle.fk_compile.specs.ListLaws.{StraightHasNoTarget, ListsHaveBlocks};
+ghost use Rattle.fk_compile.specs.ListLaws.{StepsFindValues, GroupedListsAreGenerable};
+ghost use Rattle.fk_compile.specs.ListLaws.{ListsAreSmall};
 ghost use Rattle.fk_compile.specs.Laws.{NeverTraps};
 
 use fk_lower_names::laws::texts_are_proper;
 use fk_parse_laws::laws::texts_are_trim;
 
-/// In a program in place that has no `fork` the code leads each processor from place to place.
+/// In a program in place the code leads each processor from place to place.
 pub fn programs_are_led()
     ensures { ProgramsAreLed }
 {}
@@ -79,10 +79,10 @@ pub fn sites_are_own()
     ensures { SitesAreOwn }
 {}
 
-/// In every run of the list of a program without a `fork` that keeps all rules and has a layout,
-/// each processor is at one node of the tree of groups, as its operations and its levels tell, and
-/// the members of a group in lockstep are at one index of the list and have one space. This holds
-/// after every schedule of possible rounds in which each processor does one operation at most.
+/// In every run of the list of a program that keeps all rules and has a layout, each processor is at
+/// one node of the tree of groups, as its operations and its levels tell, and the members of a group
+/// in lockstep are at one index of the list and have one space. This holds after every schedule of
+/// possible rounds in which each processor does one operation at most.
 pub fn programs_stay_in_trees()
     ensures { ProgramsStayInTrees }
 {}
@@ -98,10 +98,10 @@ pub fn straight_has_no_target()
     ensures { StraightHasNoTarget }
 {}
 
-/// Each operation of a flat list without a `fork`, whose operations go on in the list, has a block,
-/// and its target is in the list.
-pub fn plain_lists_have_blocks()
-    ensures { PlainListsHaveBlocks }
+/// Each operation of a flat list whose operations go on in the list has a block, and its target is
+/// in the list.
+pub fn lists_have_blocks()
+    ensures { ListsHaveBlocks }
 {}
 
 /// Where each operation of a list finds the values that it needs, each step of a group finds the
@@ -116,9 +116,9 @@ pub fn grouped_lists_are_generable()
     ensures { GroupedListsAreGenerable }
 {}
 
-/// The flat list of a program without a `fork` that keeps all rules and has a layout, with the
-/// depths and sites of its text and the levels that are found for it, keeps its processors in the
-/// tree of groups, as the laws of machines require.
+/// The flat list of a program that keeps all rules and has a layout, with the depths and sites of
+/// its text and the levels that are found for it, keeps its processors in the tree of groups, as the
+/// laws of machines require.
 pub fn lists_are_of_tree()
     ensures { ListsAreOfTree }
 {}

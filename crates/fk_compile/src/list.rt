@@ -21,14 +21,13 @@ ghost use Rattle.fk_gen.specs.declared.placed.Levels.{Levels};
 ghost use Rattle.fk_lower_laws.specs.Certain.{HasFrames};
 ghost use Rattle.fk_lower_laws.specs.Laws.{count_of_file};
 ghost use Rattle.fk_gen_list.specs.Generable.{IsGenerable, most_words};
-ghost use Rattle.fk_compile_text.specs.Plain.{ArePlain};
 ghost use Rattle.fk_compile_text.specs.Refusal.{IsRefusedText};
 ghost use Rattle.fk_compile_text.specs.Text.{Finds, IsChecked};
 ghost use Rattle.fk_compile.specs.Lists.{HasListOf, IsGrouped};
 
 use crate::image::are_words;
 use crate::laws::{
-    grouped_lists_are_generable, lists_are_of_tree, lists_are_small, plain_lists_have_blocks,
+    grouped_lists_are_generable, lists_are_of_tree, lists_are_small, lists_have_blocks,
 };
 use fk_check_laws::laws::correct_programs_fit;
 use fk_compile_text::{Built, Refusal};
@@ -88,8 +87,6 @@ pub(crate) fn list_of(alloc: Global, text: &Built) -> Result<List, Refusal>
         (program_of text.now.tree).items }
     requires well_formed { IsWellFormed (program_of text.now.tree) }
     requires tokens { text.now.tree.tokens ≤ 2 ^ 20 }
-    requires plain { ArePlain (tables_by (program_of text.now.tree) text.now.facts)
-        (program_of text.now.tree) }
     ensures list { IfOk result
         (λ list. HasListOf (tables_by (program_of text.now.tree) text.now.facts)
         (program_of text.now.tree) list.ops.items list.main) }
@@ -109,7 +106,7 @@ pub(crate) fn list_of(alloc: Global, text: &Built) -> Result<List, Refusal>
     numbers_have_room();
     texts_can_be_laid();
     lowered_lists_can_have_groups();
-    plain_lists_have_blocks();
+    lists_have_blocks();
     lists_are_of_tree();
     lowered(alloc, &known)
 }

@@ -13,7 +13,7 @@ use Rattle.fk_layout.specs.Layout.{tables_by}
 use Rattle.fk_layout.specs.Refusal.{IsRefusal}
 use Rattle.fk_compile_text.proofs.Elements.{Contains-head, Contains-tail, Contains-cons_cases, Contains-nil}
 use Rattle.fk_compile_text.specs.declared.refusal.Refusal.{Refusal}
-use Rattle.fk_compile_text.specs.declared.refusal.Refusal.TheVariants.{BadByte, OpenComment, OpenString, WideNumber, Unexpected, EndOfText, Nesting, Rule, TooManySites, FrameTooLarge, GlobalsTooLarge, SourceTooLong, NotBuilt, Memory}
+use Rattle.fk_compile_text.specs.declared.refusal.Refusal.TheVariants.{BadByte, OpenComment, OpenString, WideNumber, Unexpected, EndOfText, Nesting, Rule, TooManySites, FrameTooLarge, GlobalsTooLarge, SourceTooLong, Memory}
 use Rattle.fk_compile_text.specs.Refusal.{IsRefusedText, IsOfFunction, TellsFrame, TellsFault}
 use Rattle.fk_compile_text.specs.Text.{IsChecked, HasLargeFrame}
 
@@ -83,7 +83,6 @@ module _ (source : List ℕ) (tree : ProgramTree) (facts : Facts) (short : lengt
   )
   by_frame place words (GlobalsTooLarge count) refused tells = absurd tells
   by_frame place words (SourceTooLong bytes) refused tells = absurd tells
-  by_frame place words NotBuilt refused tells = absurd tells
   by_frame place words (Memory e) refused tells = tt
 
   pub refused_by : (fault : LayoutFault) (refusal : Refusal) → IsRefusal (tables_by tree facts) tree.items fault → TellsFault tree.items fault refusal → IsRefusedText source refusal

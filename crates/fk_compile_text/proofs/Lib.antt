@@ -1,7 +1,5 @@
 -- the elements of a list, one by one
 pub mod Elements
--- what a visitor sees of the operations of a text
-pub mod Watched
 -- how far tokens reach, and how few items they make
 pub mod Bounds
 -- the answers of its parts are those of the whole

@@ -26,15 +26,14 @@ module _ (source name : List ℕ) (list : List GlobalRow) (has : HasRows source 
   -- what is found among the rows of a text is what the text has
   pub global_of : (row : Option GlobalRow) → IsRowOf (map row_of list) name (option_map row_of row) → HasGlobal source name (option_map row_of row)
   global_of row is = record {
-    laid = has.built.laid;
-    built = has.built.built;
+    laid = has.laid;
     is = subst (λ (all : List Row). IsRowOf all name (option_map row_of row)) has.are is;
   }
 
   pub row_few : (row : Option GlobalRow) → IsRowOf (map row_of list) name (option_map row_of row) → IfSome row (λ r. r.first + r.words ≤ 524288)
   row_few None is = tt
   row_few (Some row) is =
-      let laid = has.built.laid in
+      let laid = has.laid in
       let tables = told laid.facts.notes.items laid.facts.kinds.items in
       let few : total tables laid.tree.items ≤ 524288 = laid.fits.words in
       let among = subst (λ (all : List Row). Contains all (row_of row)) has.are is.0 in

@@ -1,5 +1,2 @@
-pub mod Built
-pub mod Plain
-pub mod Building
 pub mod Text
 pub mod Refusal

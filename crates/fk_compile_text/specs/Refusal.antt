@@ -10,7 +10,7 @@ use Rattle.fk_parse_combinators.specs.declared.fault.SyntaxFault.TheVariants as 
 use Rattle.fk_layout.specs.declared.sites.LayoutFault.{LayoutFault}
 use Rattle.fk_layout.specs.declared.sites.LayoutFault.TheVariants as layout
 use Rattle.fk_compile_text.specs.Text.{HasSyntaxFault, HasBrokenRule, HasFunctionAt, HasTooMuch}
-use Rattle.fk_compile_text.specs.Text.{HasLargeFrame, IsNotBuilt}
+use Rattle.fk_compile_text.specs.Text.{HasLargeFrame}
 use Rattle.fk_compile_text.specs.declared.refusal.Refusal.{Refusal}
 use Rattle.fk_compile_text.specs.declared.refusal.Refusal.TheVariants.{BadByte, OpenComment}
 use Rattle.fk_compile_text.specs.declared.refusal.Refusal.TheVariants.{OpenString, WideNumber}
@@ -18,13 +18,13 @@ use Rattle.fk_compile_text.specs.declared.refusal.Refusal.TheVariants.{Unexpecte
 use Rattle.fk_compile_text.specs.declared.refusal.Refusal.TheVariants.{Nesting, Rule, TooManySites}
 use Rattle.fk_compile_text.specs.declared.refusal.Refusal.TheVariants.{FrameTooLarge}
 use Rattle.fk_compile_text.specs.declared.refusal.Refusal.TheVariants.{GlobalsTooLarge}
-use Rattle.fk_compile_text.specs.declared.refusal.Refusal.TheVariants.{SourceTooLong, NotBuilt}
+use Rattle.fk_compile_text.specs.declared.refusal.Refusal.TheVariants.{SourceTooLong}
 use Rattle.fk_compile_text.specs.declared.refusal.Refusal.TheVariants.{Memory}
 
 -- The first refusal of a text that applies. The text is too long. If it isn't, it has a lexical
 -- fault at the least place. If it has tokens, they have no tree, because of a fault at a token or
 -- at the end. If they have one, it breaks this rule first. If it keeps all rules, there is too much
--- of something for a layout. If it has a layout, it has a `fork`.
+-- of something for a layout.
 abbrev pub IsRefusedText : List ℕ → Refusal → Type 0
 IsRefusedText source (SourceTooLong bytes) = (bytes ≡ length source) × (most_text_bytes < bytes)
 IsRefusedText source (BadByte place) = (length source ≤ most_text_bytes)
@@ -49,7 +49,6 @@ IsRefusedText source (FrameTooLarge name words) = (length source ≤ most_text_b
     × HasLargeFrame source name.items words
 IsRefusedText source (GlobalsTooLarge words) = (length source ≤ most_text_bytes)
     × HasTooMuch source (layout.GlobalsTooLarge words)
-IsRefusedText source NotBuilt = (length source ≤ most_text_bytes) × IsNotBuilt source
 IsRefusedText source (Memory e) = Unit {0}
 
 -- ---- a fault of the layout, as a refusal

@@ -1,5 +1,5 @@
--- Facts of a text: its tokens, its tree, what is known of it, and whether it is built.
-use Rattle.std.specs.Prelude.{◌≡◌, ◌≢◌, ℕ, false, List, Option, Some, None, All, Contains}
+-- Facts of a text: its tokens, its tree, and what is known of it.
+use Rattle.std.specs.Prelude.{◌≡◌, ◌≢◌, ℕ, List, Option, Some, None, All, Contains}
 use Rattle.fk_syntax.specs.declared.facts.Facts.{Facts}
 use Rattle.fk_syntax.specs.declared.place.Place.{Place}
 use Rattle.fk_syntax.specs.Program.{ItemTree, FunctionItem, ProgramTree}
@@ -19,10 +19,6 @@ use Rattle.fk_layout_lookup.specs.Lookup.{Tells}
 use Rattle.fk_layout_lookup.specs.declared.lookup.Lookup.{Lookup}
 use Rattle.fk_layout_walk.specs.Known.{tables_of, items_in}
 use Rattle.fk_layout_walk.specs.declared.known.ProgramTables.{ProgramTables}
-use Rattle.fk_meaning_operation.specs.declared.operation.Operation.TheVariants.{Split}
-use Rattle.fk_meaning_operation.specs.declared.operation.SplitKind.TheVariants.{Fork}
-use Rattle.fk_compile_text.specs.Built.{operations_of}
-use Rattle.fk_compile_text.specs.Plain.{ArePlain}
 
 -- A text has tokens, and the tree is theirs.
 pub record HasTree (source : List ℕ) (tree : ProgramTree) : Type 0 where
@@ -82,37 +78,24 @@ pub record HasLargeFrame (source name : List ℕ) (words : ℕ) : Type 0 where
   pub refused : IsRefusal (tables_by tree facts) tree.items (layout.FrameTooLarge place words)
   pub named : HasFunctionAt tree.items place name
 
--- A text has a layout, and all its operations are built.
-pub record IsBuilt (source : List ℕ) : Type 0 where
-  pub laid : HasLayout source
-  pub built : ArePlain (tables_by laid.tree laid.facts) laid.tree
-
--- A text has a layout, and one of its operations is the split of a `fork`.
-pub record IsNotBuilt (source : List ℕ) : Type 0 where
-  pub laid : HasLayout source
-  pub forks : Contains (operations_of (tables_by laid.tree laid.facts) laid.tree) (Split Fork)
-
 -- the lookup tells the functions and the group frames of this tree, as these facts have them
 abbrev pub Finds : ProgramTree → Facts → Lookup → Type 0
 Finds tree facts lookup =
     (known : ProgramTables) → tables_of known ≡ tables_by tree facts → items_in known ≡ tree.items
     → Tells known lookup
 
--- a text has a layout and is built, and these are the rows of its shared variables of file scope
+-- a text has a layout, and these are the rows of its shared variables of file scope
 pub record HasRows (source : List ℕ) (all : List Row) : Type 0 where
-  pub built : IsBuilt source
-  pub are : all ≡ rows (told built.laid.facts.notes.items built.laid.facts.kinds.items)
-      built.laid.tree.items
+  pub laid : HasLayout source
+  pub are : all ≡ rows (told laid.facts.notes.items laid.facts.kinds.items) laid.tree.items
 
 -- the one of these rows that has a name, and none where none has it
 abbrev pub IsRowOf : List Row → List ℕ → Option Row → Type 0
 IsRowOf all name (Some row) = Contains all row × (row.name ≡ name)
 IsRowOf all name None = All (λ (row : Row). row.name ≢ name) all
 
--- A text has a layout and is built, and this is the row of a name among those of its layout, if
--- there is one.
+-- A text has a layout, and this is the row of a name among those of its layout, if there is one.
 pub record HasGlobal (source name : List ℕ) (row : Option Row) : Type 0 where
   pub laid : HasLayout source
-  pub built : ArePlain (tables_by laid.tree laid.facts) laid.tree
   pub is : IsRowOf
       (rows (told laid.facts.notes.items laid.facts.kinds.items) laid.tree.items) name row

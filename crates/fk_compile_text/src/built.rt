@@ -1,6 +1,6 @@
 //! A text that is built, with everything that is known of it.
 
-ghost use Rattle.std.specs.Prelude.{◌≡◌, ◌≤◌, ◌^◌, ℕ, List, IfErr, IfOk, OnOk, false, length, true};
+ghost use Rattle.std.specs.Prelude.{◌≡◌, ◌≤◌, ◌^◌, IfErr, IfOk, OnOk, length};
 ghost use Rattle.std.specs.Prelude.{vec_len};
 ghost use Rattle.fk_num.specs.Limits.{most_data_words, most_text_bytes};
 ghost use Rattle.fk_syntax.specs.ProgramView.{program_of};
@@ -8,11 +8,9 @@ ghost use Rattle.fk_syntax.specs.WellFormed.{IsWellFormed};
 ghost use Rattle.fk_layout_walk.specs.Known.{IsSound, items_in, tables_of};
 ghost use Rattle.fk_layout.specs.Layout.{IsLayout, tables_by};
 ghost use Rattle.fk_layout.specs.Refusal.{Fits};
-ghost use Rattle.fk_compile_text.specs.Plain.{ArePlain};
 ghost use Rattle.fk_compile_text.specs.Refusal.{IsRefusedText};
 ghost use Rattle.fk_compile_text.specs.Text.{Finds, IsChecked};
 
-use crate::building::are_built;
 use crate::laid::layout_of;
 use crate::refusal::Refusal;
 use crate::text::{Checked, checked_text};
@@ -59,37 +57,8 @@ fn lookup_of<'a>(alloc: Global, text: &Checked<'a>, layout: &Layout<'a>) -> Resu
     }
 }
 
-// The answer for a text that has a layout, by whether it is built.
-fn told_by(is_built: bool) -> Result<(), Refusal>
-    ensures built { OnOk result (is_built ≡ true) }
-    ensures not_built { IfErr result
-        (λ refusal. (is_built ≡ false) × (refusal ≡ Refusal.NotBuilt)) }
-{
-    if is_built {
-        Ok(())
-    } else {
-        Err(Refusal::NotBuilt)
-    }
-}
-
-// That all operations of a text that has a layout are built.
-fn test_built(text: &Built) -> Result<(), Refusal>
-    requires laid { IsLayout (program_of text.now.tree) text.now.facts text.now.layout }
-    requires finds { Finds (program_of text.now.tree) text.now.facts text.now.lookup }
-    ensures built { OnOk result (ArePlain (tables_by (program_of text.now.tree) text.now.facts)
-        (program_of text.now.tree)) }
-    ensures refused { IfErr result (λ refusal. (source : List ℕ) → length source ≤ most_text_bytes
-        → IsChecked source (program_of text.now.tree) text.now.facts
-        → Fits (tables_by (program_of text.now.tree) text.now.facts)
-        (program_of text.now.tree).items
-        → IsRefusedText source refusal) }
-{
-    told_by(are_built(&text.tables()))
-}
-
-/// The tree of a text that keeps all rules and whose operations are all built, its facts, its
-/// layout and its lookup. It takes time and memory linear in the text and the words of its shared
-/// variables.
+/// The tree of a text that keeps all rules, its facts, its layout and its lookup. It takes time and
+/// memory linear in the text and the words of its shared variables.
 ///
 /// # Errors
 ///
@@ -101,16 +70,14 @@ fn test_built(text: &Built) -> Result<(), Refusal>
 /// refused by the first of these: `TooManySites`, with their number, if it has more than 16,000
 /// operations; `FrameTooLarge`, with the name of the first such function and its words, if a
 /// private frame has more than 64 words; `GlobalsTooLarge`, with their number, if its shared
-/// variables of file scope have more than 524,288 words; `NotBuilt` if it has a layout and a
-/// `fork`. `Memory` if there isn't enough memory, which no clause can say.
+/// variables of file scope have more than 524,288 words. `Memory` if there isn't enough memory,
+/// which no clause can say.
 pub fn built_text<'a>(alloc: Global, source: &'a [u8]) -> Result<Built<'a>, Refusal>
     ensures checked { IfOk result (λ text. IsChecked source.now (program_of text.tree) text.facts) }
     ensures laid { IfOk result (λ text. IsLayout (program_of text.tree) text.facts text.layout) }
     ensures finds { IfOk result (λ text. Finds (program_of text.tree) text.facts text.lookup) }
     ensures fits { IfOk result (λ text. Fits (tables_by (program_of text.tree) text.facts)
         (program_of text.tree).items) }
-    ensures built { IfOk result (λ text. ArePlain (tables_by (program_of text.tree) text.facts)
-        (program_of text.tree)) }
     ensures well_formed { IfOk result (λ text. IsWellFormed (program_of text.tree)) }
     // A token has at least one byte.
     ensures small { IfOk result (λ text. text.tree.tokens ≤ 2 ^ 20) }
@@ -122,12 +89,10 @@ pub fn built_text<'a>(alloc: Global, source: &'a [u8]) -> Result<Built<'a>, Refu
     let checked = checked_text(alloc, source)?;
     let layout = layout_of(alloc, &checked)?;
     let lookup = lookup_of(alloc, &checked, &layout)?;
-    let text = Built {
+    Ok(Built {
         tree: checked.tree,
         facts: checked.facts,
         layout,
         lookup,
-    };
-    test_built(&text)?;
-    Ok(text)
+    })
 }

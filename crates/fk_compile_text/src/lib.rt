@@ -1,14 +1,12 @@
 //! Texts: the tree of a text, its facts and its layout, or the reason why it is refused.
 #![tactic(auto)]
 
-mod building;
 mod built;
 mod global;
 mod laid;
 pub mod refusal;
 mod text;
 
-pub use building::is_plain;
 pub use built::{Built, built_text};
 pub use fk_layout_globals::GlobalRow;
 pub use global::find_global;

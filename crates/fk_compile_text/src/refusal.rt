@@ -45,9 +45,6 @@ pub enum Refusal {
     /// The text has this many bytes, more than 1,048,576.
     #[error("a text of {0} bytes is too long")]
     SourceTooLong(u64),
-    /// The text is one of the language, but has a `fork`, which isn't built.
-    #[error("not built")]
-    NotBuilt,
     /// There isn't enough memory for the image.
     #[error(transparent)]
     Memory(#[from(alloc)] AllocError),

@@ -24,16 +24,16 @@ long main (OfPart numbered frame ∷ nests) = by (long main nests) (levels_of ma
     by rest (suc n) e = ap suc (rest ∙ sym (fewer main (nesting nests) (suc n) e n refl))
 
 -- at the level of the innermost part, and further out
-chosen : {A : Type 0} (n level : ℕ) (x y z : A) → (level < n → y ≡ z) → level < suc n → (if n == level then x else y) ≡ (if level == n then x else z)
+chosen : {A : Type 0} (n level : ℕ) (x y z : A) → (level < n → y ≡ z) → level < suc n → (if n == level then x else y) ≡ (if suc level == suc n then x else z)
 chosen n level x y z further lt = by (cases_lt level n)
   where
-    by : (level < n) ⊎ (n ≤ level) → (if n == level then x else y) ≡ (if level == n then x else z)
+    by : (level < n) ⊎ (n ≤ level) → (if n == level then x else y) ≡ (if suc level == suc n then x else z)
     by (inl less) =
         ap (λ (b : Bool). if b then x else y) (ne_eqb n level (λ e. omega (arith, e, less))) ∙ further less
-        ∙ sym (ap (λ (b : Bool). if b then x else z) (ne_eqb level n (λ e. omega (arith, e, less))))
+        ∙ sym (ap (λ (b : Bool). if b then x else z) (ne_eqb (suc level) (suc n) (λ e. omega (arith, e, less))))
     by (inr most) =
         let same : level ≡ n = omega (arith, lt, most) in
-        ap (λ (b : Bool). if b then x else y) (eq-eqb n level (sym same)) ∙ sym (ap (λ (b : Bool). if b then x else z) (eq-eqb level n same))
+        ap (λ (b : Bool). if b then x else y) (eq-eqb n level (sym same)) ∙ sym (ap (λ (b : Bool). if b then x else z) (eq-eqb (suc level) (suc n) (ap suc same)))
 
 pub told_forks : (main : Bool) (nests : List Nest) (level : ℕ) → level < levels_of main nests → fork_at (open_in main nests) level ≡ forks_of main nests level
 told_forks main [] level lt = refl

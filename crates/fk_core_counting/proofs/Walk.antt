@@ -44,9 +44,9 @@ pub record KeepsPlaces (sys : System) (place : sys.State → Place) (place_of : 
   pub first : (f : ℕ) → (frame : Option ℕ) × (place (sys.first f) ≡ with_frame (place_of f) frame)
 
 -- a loop that shrinks is in the only part of a split
-in_either : (b : Bool) (A G : Type 0) → Either b ((false ≡ true) × A) G → G
-in_either true A G e = untrue e.0
-in_either false A G e = e
+in_either : (b : Bool) (A B G : Type 0) → Either b ((false ≡ true) × A × B) G → G
+in_either true A B G e = untrue e.0
+in_either false A B G e = e
 
 shrink_is : (op : Operation) → is_shrink op ≡ true → op ≡ o.Shrink
 shrink_is o.Shrink e = refl
@@ -54,10 +54,10 @@ shrink_is op e = untrue e
 
 test_shrinks : (code : Code ℕ) (shrinking closing b : Bool) → shrinking ≡ true → Shape false closing (of_test shrinking) code → ShrinksIn b code → b ≡ true
 test_shrinks done shrinking closing b e shape h = absurd (true≢false shape.2)
-test_shrinks (perform t op rest) shrinking closing b e shape h = test_shrinks rest shrinking false b e (in_either (ends_part op) (((of_test shrinking).tests ≡ false) × (rest ≡ done)) (Shape false false (of_test shrinking) rest) shape.2) h
+test_shrinks (perform t op rest) shrinking closing b e shape h = test_shrinks rest shrinking false b e (in_either (ends_part op) ((of_test shrinking).tests ≡ false) (rest ≡ done) (Shape false false (of_test shrinking) rest) shape.2) h
 test_shrinks (choose t op x y rest) shrinking closing b e shape h = test_shrinks rest shrinking (opens_body op) b e shape.6 h.2
-test_shrinks (while test body last rest) shrinking closing b e shape h = test_shrinks rest shrinking false b e (in_either shape.1 (((of_test shrinking).tests ≡ false) × (rest ≡ done)) (Shape false false (of_test shrinking) rest) shape.5) h.3
-test_shrinks (until body test rest) shrinking closing b e shape h = test_shrinks rest shrinking false b e (in_either shape.1 (((of_test shrinking).tests ≡ false) × (rest ≡ done)) (Shape false false (of_test shrinking) rest) shape.4) h.2
+test_shrinks (while test body last rest) shrinking closing b e shape h = test_shrinks rest shrinking false b e (in_either shape.1 ((of_test shrinking).tests ≡ false) (rest ≡ done) (Shape false false (of_test shrinking) rest) shape.5) h.3
+test_shrinks (until body test rest) shrinking closing b e shape h = test_shrinks rest shrinking false b e (in_either shape.1 ((of_test shrinking).tests ≡ false) (rest ≡ done) (Shape false false (of_test shrinking) rest) shape.4) h.2
 test_shrinks (turn test body last rest) shrinking closing b e shape h = absurd shape
 test_shrinks (again test body last rest) shrinking closing b e shape h = absurd shape
 test_shrinks (quit t op rest) shrinking closing b e shape h = h.0 (shrink_is op (shape.4 ∙ e))

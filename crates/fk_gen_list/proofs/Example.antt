@@ -1,5 +1,5 @@
 -- The premises, met by a list: three processors make a group, which ends at once, and all halt.
-use Rattle.std.proofs.Common.{◌≡◌, ℕ, zero, suc, ◌^◌, ◌<◌, ◌≤◌, List, [], ◌∷◌, Some, true, false, IsSome, ap, subst, ◌∙◌, arith, refl, inl, inr}
+use Rattle.std.proofs.Common.{◌≡◌, ℕ, zero, suc, ◌^◌, ◌<◌, ◌≤◌, List, [], ◌∷◌, Some, true, false, IsSome, ap, subst, ◌∙◌, arith, refl, inl, inr, None}
 use Rattle.std.specs.Prelude.{slice_get}
 use Rattle.std.proofs.lemmas.List.Elements.{All-nil, All-from_recursion}
 use Rattle.fk_meaning_operation.specs.declared.operation.Operation.{Operation}

@@ -13,8 +13,6 @@ use Rattle.fk_core.proofs.Leading.{op_stops}
 use Rattle.fk_core_flat.specs.Flat.{flat}
 use Rattle.fk_core_flat.specs.Laws.{IsFlat}
 use Rattle.fk_core_flat.proofs.Lengths.{flat_length}
-use Rattle.fk_compile_text.specs.Built.{operations, operations_in, operations_of}
-use Rattle.fk_lower_laws.proofs.Along.{EachOf, each_of, front, back, along}
 use Rattle.fk_lower_laws.specs.FreeLaws.{LiesIn, AreApart, FlatListsAreApart}
 use Rattle.fk_lower_laws.proofs.Items.{AllActs, all_acts, weaker, first_act, OperationAt, JumpAt, found}
 
@@ -23,7 +21,7 @@ abbrev pub Numbers : (is : Bool) → (first count n : ℕ) → (other : Type 0) 
 Numbers true first count n other = (first ≤ n) × (n < first + count)
 Numbers false first count n other = other
 
-module _ (which : Operation → Bool) (tables : Tables) (everyone : List FunctionTree) where
+module _ (tables : Tables) (everyone : List FunctionTree) where
   abbrev pub count : FunctionTree → ℕ
   count f = size (code_of tables everyone f)
 
@@ -60,33 +58,30 @@ module _ (which : Operation → Bool) (tables : Tables) (everyone : List Functio
   -- an operation of a function, with its rank
   pub record IsOwn (first : ℕ) (fs : List FunctionTree) (binding n : ℕ) (op : Operation) : Type 0 where
     pub rank : IsRankOf first fs binding n
-    pub is : which op ≡ true
 
-  pub all_own : (entry : ℕ → ℕ) (fs : List FunctionTree) (first b : ℕ) → EachOf which (operations_in tables everyone fs)
+  pub all_own : (entry : ℕ → ℕ) (fs : List FunctionTree) (first b : ℕ)
       → (near : Bool) (c : Around) (i k : ℕ) → AllActs (IsOwn first fs b) (flat entry near c i k (body_in tables everyone first fs b))
-  all_own entry [] first b h near c i k = tt
-  all_own entry (f ∷ fs) first b h near c i k =
+  all_own entry [] first b near c i k = tt
+  all_own entry (f ∷ fs) first b near c i k =
       by (binding_of tables f == b) refl
-      (all_own entry fs (first + count f) b (back which (operations (code_of tables everyone f)) (operations_in tables everyone fs) h) near c i k)
+      (all_own entry fs (first + count f) b near c i k)
     where
       as_own : (is : Bool) → (binding_of tables f == b) ≡ is → (n : ℕ) (op : Operation)
-          → Numbers is first (count f) n (IsRankOf (first + count f) fs b n) → which op ≡ true → IsOwn first (f ∷ fs) b n op
-      as_own is e n op numbers so =
-          record { rank = subst (λ x. Numbers x first (count f) n (IsRankOf (first + count f) fs b n)) (sym e) numbers; is = so }
+          → Numbers is first (count f) n (IsRankOf (first + count f) fs b n) → IsOwn first (f ∷ fs) b n op
+      as_own is e n op numbers =
+          record { rank = subst (λ x. Numbers x first (count f) n (IsRankOf (first + count f) fs b n)) (sym e) numbers }
 
       by : (is : Bool) → (binding_of tables f == b) ≡ is
           → AllActs (IsOwn (first + count f) fs b) (flat entry near c i k (body_in tables everyone (first + count f) fs b))
           → AllActs (IsOwn first (f ∷ fs) b) (flat entry near c i k (if is then numbered first (code_of tables everyone f) else body_in tables everyone (first + count f) fs b))
       by true e others =
-          all_acts (IsOwn first (f ∷ fs) b) which entry first (first + count f) (λ n op low high so. as_own true e n op (low, high) so)
-          (code_of tables everyone f) first (omega arith) (omega arith)
-          (along which (code_of tables everyone f) (front which (operations (code_of tables everyone f)) (operations_in tables everyone fs) h)) near c i k
+          all_acts (IsOwn first (f ∷ fs) b) entry first (first + count f) (λ n op low high. as_own true e n op (low, high))
+          (code_of tables everyone f) first (omega arith) (omega arith) near c i k
       by false e others =
-          weaker (IsOwn (first + count f) fs b) (IsOwn first (f ∷ fs) b) (λ n op own. as_own false e n op own.rank own.is)
+          weaker (IsOwn (first + count f) fs b) (IsOwn first (f ∷ fs) b) (λ n op own. as_own false e n op own.rank)
           (flat entry near c i k (body_in tables everyone (first + count f) fs b)) others
 
-module _ (which : Operation → Bool) (tables : Tables) (program : ProgramTree) (core : List CoreOp) (entry : ℕ → ℕ)
-    (all_are : All (λ op. which op ≡ true) (operations_of tables program)) (flat' : IsFlat (bodies_of tables program) core entry) where
+module _ (tables : Tables) (program : ProgramTree) (core : List CoreOp) (entry : ℕ → ℕ) (flat' : IsFlat (bodies_of tables program) core entry) where
   abbrev pub fs : List FunctionTree
   fs = functions_of program.items
 
@@ -94,7 +89,7 @@ module _ (which : Operation → Bool) (tables : Tables) (program : ProgramTree) 
   bodies = bodies_of tables program
 
   abbrev pub Own : ℕ → ℕ → Operation → Type 0
-  Own f = IsOwn which tables fs 0 fs f
+  Own f = IsOwn tables fs 0 fs f
 
   -- what stands at an index of a function
   pub at_index : (i f : ℕ) → LiesIn bodies flat'.place i f
@@ -108,7 +103,7 @@ module _ (which : Operation → Bool) (tables : Tables) (program : ProgramTree) 
       let e : flat'.place f + d ≡ i = omega arith in
       let lt : d < length items = omega arith in
       by d e (found (Own f) core entry items (flat'.place f) d lt (flat'.has f)
-      (all_own which tables fs entry fs 0 f (each_of which (operations_of tables program) all_are) false None (flat'.place f) (length core))
+      (all_own tables fs entry fs 0 f false None (flat'.place f) (length core))
       (first_act entry (bodies f) false None (flat'.place f) (length core)))
     where
       by : (d : ℕ) → flat'.place f + d ≡ i
@@ -125,7 +120,7 @@ module _ (which : Operation → Bool) (tables : Tables) (program : ProgramTree) 
       → LiesIn bodies flat'.place i f → LiesIn bodies flat'.place i g → f ≡ g
   apart_by f g i (inl x) (inl y) a b =
       let same : x.op ≡ y.op = same_op x.op y.op (slice_get core i) x.stands y.stands in
-      one_owner which tables fs fs 0 f g y.op.site (subst (λ (op : CoreOp). IsRankOf which tables fs 0 fs f op.site) same x.own.rank) y.own.rank
+      one_owner tables fs fs 0 f g y.op.site (subst (λ (op : CoreOp). IsRankOf tables fs 0 fs f op.site) same x.own.rank) y.own.rank
   apart_by f g i (inl x) (inr y) a b = absurd (true≢false (sym y.0.leads ∙ op_stops core entry i x.op x.operation x.stands x.is_read y.0.op y.0.stands))
   apart_by f g i (inr x) (inl y) a b = absurd (true≢false (sym x.0.leads ∙ op_stops core entry i y.op y.operation y.stands y.is_read x.0.op x.0.stands))
   apart_by f g zero (inr x) (inr y) a b = absurd (let inside = x.1 in let z : ⊥ = omega arith in z)
@@ -142,4 +137,4 @@ module _ (which : Operation → Bool) (tables : Tables) (program : ProgramTree) 
   apart i f g a b = apart_by f g i (at_index i f a) (at_index i g b) a b
 
 pub flat_lists_are_apart : FlatListsAreApart
-flat_lists_are_apart tables program core entry flat' = apart (λ op. true) tables program core entry (λ k op less. refl) flat'
+flat_lists_are_apart tables program core entry flat' = apart tables program core entry flat'

@@ -11,7 +11,6 @@ use Rattle.fk_core.specs.CodeAt.{Around}
 use Rattle.fk_core_flat.specs.Items.{Item, jump, act, Has, way_of, goes_away}
 use Rattle.fk_core_flat.specs.Flat.{begins_here, skip, gap, label, flat}
 use Rattle.fk_core_flat.proofs.Parts.{choice_at, turns_at, rounds_at, entering_at}
-use Rattle.fk_lower_laws.specs.AllOf.{AllOf}
 
 -- the first item is no jump
 abbrev pub NoJumpFirst : List Item → Type 0
@@ -68,69 +67,69 @@ module _ (P : ℕ → Operation → Type 0) where
   skip_none true target = tt
   skip_none false target = tt
 
-  -- so it is of code that is numbered between two numbers, and of which all operations are of some kind
-  module _ (which : Operation → Bool) (entry : ℕ → ℕ) (low high : ℕ) (own : (n : ℕ) (op : Operation) → low ≤ n → n < high → which op ≡ true → P n op) where
-    pub all_acts : (code : Coded) (n : ℕ) → low ≤ n → n + size code ≤ high → AllOf which code
+  -- so it is of code that is numbered between two numbers
+  module _ (entry : ℕ → ℕ) (low high : ℕ) (own : (n : ℕ) (op : Operation) → low ≤ n → n < high → P n op) where
+    pub all_acts : (code : Coded) (n : ℕ) → low ≤ n → n + size code ≤ high
         → (near : Bool) (c : Around) (i k : ℕ) → AllActs (flat entry near c i k (numbered n code))
-    all_acts done n l h b near c i k = tt
-    all_acts (perform t op rest) n l h b near c i k =
+    all_acts done n l h near c i k = tt
+    all_acts (perform t op rest) n l h near c i k =
         let code = numbered (suc n) rest in
         let here = goes_away (way_of op) || begins_here near code in
         let r = suc i + gap here in (
-          own n op l (omega arith) b.0,
-          past_skip here (label c r k code) (flat entry near c r k code) (all_acts rest (suc n) (omega arith) (omega arith) b.1 near c r k),
+          own n op l (omega arith),
+          past_skip here (label c r k code) (flat entry near c r k code) (all_acts rest (suc n) (omega arith) (omega arith) near c r k),
         )
-    all_acts (choose t op x y rest) n l h b near c i k =
+    all_acts (choose t op x y rest) n l h near c i k =
         let m = suc n + size x in
         let q = choice_at entry (numbered (suc n) x) (numbered m y) (numbered (m + size y) rest) near c i k in (
-          own n op l (omega arith) b.0,
+          own n op l (omega arith),
           both (q.jumps ++ q.firsts ++ q.seconds) q.others
               (both (q.jumps ++ q.firsts) q.seconds
               (past_skip q.here (label c q.first q.next (numbered (suc n) x)) q.firsts
-              (all_acts x (suc n) (omega arith) (omega arith) b.1 q.beside c q.first q.next))
-              (all_acts y m (omega arith) (omega arith) b.2 q.after c q.second q.next))
-              (all_acts rest (m + size y) (omega arith) (omega arith) b.3 near c q.behind k),
+              (all_acts x (suc n) (omega arith) (omega arith) q.beside c q.first q.next))
+              (all_acts y m (omega arith) (omega arith) q.after c q.second q.next))
+              (all_acts rest (m + size y) (omega arith) (omega arith) near c q.behind k),
         )
-    all_acts (while test body step rest) n l h b near c i k =
+    all_acts (while test body step rest) n l h near c i k =
         let m = n + size test in
         let s = m + size body in
         let q = turns_at entry (numbered n test) (numbered m body) (numbered s step) (numbered (s + size step) rest) near c i k in
         both (q.tests ++ q.bodies ++ q.lasts) q.others
         (both (q.tests ++ q.bodies) q.lasts
         (both q.tests q.bodies
-        (all_acts test n l (omega arith) b.0 q.enters (Some q.loop) i q.enter)
-        (all_acts body m (omega arith) (omega arith) b.1 q.steps (Some q.loop) q.body q.loop.onward))
-        (all_acts step s (omega arith) (omega arith) b.2 false (Some q.loop) q.step i))
-        (all_acts rest (s + size step) (omega arith) (omega arith) b.3 near c q.behind k)
-    all_acts (until body test rest) n l h b near c i k =
+        (all_acts test n l (omega arith) q.enters (Some q.loop) i q.enter)
+        (all_acts body m (omega arith) (omega arith) q.steps (Some q.loop) q.body q.loop.onward))
+        (all_acts step s (omega arith) (omega arith) false (Some q.loop) q.step i))
+        (all_acts rest (s + size step) (omega arith) (omega arith) near c q.behind k)
+    all_acts (until body test rest) n l h near c i k =
         let m = n + size body in
         let q = rounds_at entry (numbered n body) (numbered m test) (numbered (m + size test) rest) near c i k in
         both (q.bodies ++ q.tests) q.others
         (both q.bodies q.tests
-        (all_acts body n l (omega arith) b.0 true (Some q.loop) i q.test)
-        (all_acts test m (omega arith) (omega arith) b.1 false (Some q.loop) q.test q.enter))
-        (all_acts rest (m + size test) (omega arith) (omega arith) b.2 near c q.behind k)
-    all_acts (turn test body step rest) n l h b near c i k = tt
-    all_acts (again test body step rest) n l h b near c i k = tt
-    all_acts (quit t op rest) n l h b near c i k =
+        (all_acts body n l (omega arith) true (Some q.loop) i q.test)
+        (all_acts test m (omega arith) (omega arith) false (Some q.loop) q.test q.enter))
+        (all_acts rest (m + size test) (omega arith) (omega arith) near c q.behind k)
+    all_acts (turn test body step rest) n l h near c i k = tt
+    all_acts (again test body step rest) n l h near c i k = tt
+    all_acts (quit t op rest) n l h near c i k =
         let code = numbered (suc n) rest in
         let here = begins_here near code in
         let r = suc i + gap here in (
-          own n op l (omega arith) b.0,
-          past_skip here (label c r k code) (flat entry near c r k code) (all_acts rest (suc n) (omega arith) (omega arith) b.1 near c r k),
+          own n op l (omega arith),
+          past_skip here (label c r k code) (flat entry near c r k code) (all_acts rest (suc n) (omega arith) (omega arith) near c r k),
         )
-    all_acts (break rest) n l h b near c i k = all_acts rest n l h b near c i k
-    all_acts (continue rest) n l h b near c i k = all_acts rest n l h b near c i k
-    all_acts (call t op f opening rest) n l h b near c i k =
+    all_acts (break rest) n l h near c i k = all_acts rest n l h near c i k
+    all_acts (continue rest) n l h near c i k = all_acts rest n l h near c i k
+    all_acts (call t op f opening rest) n l h near c i k =
         let m = suc n + size opening in
         let q = entering_at entry f (numbered (suc n) opening) (numbered m rest) near c i k in (
-          own n op l (omega arith) b.0,
+          own n op l (omega arith),
           both (q.openings ++ q.jumps) q.others
-              (both q.openings q.jumps (all_acts opening (suc n) (omega arith) (omega arith) b.1 true None (suc i) q.back) (skip_none q.here q.next))
-              (all_acts rest m (omega arith) (omega arith) b.2 near c q.behind k),
+              (both q.openings q.jumps (all_acts opening (suc n) (omega arith) (omega arith) true None (suc i) q.back) (skip_none q.here q.next))
+              (all_acts rest m (omega arith) (omega arith) near c q.behind k),
         )
-    all_acts (ends t op rest) n l h b near c i k =
-        (own n op l (omega arith) b.0, all_acts rest (suc n) (omega arith) (omega arith) b.1 near c (suc i) k)
+    all_acts (ends t op rest) n l h near c i k =
+        (own n op l (omega arith), all_acts rest (suc n) (omega arith) (omega arith) near c (suc i) k)
 
   -- what stands at an index of a list that has them: an operation of which that is so; or a jump, which isn't the first item
   module _ (core : List CoreOp) (entry : ℕ → ℕ) where

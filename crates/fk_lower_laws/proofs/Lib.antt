@@ -1,4 +1,3 @@
-pub mod Along
 pub mod Waiting
 mod Deeper
 mod Nested

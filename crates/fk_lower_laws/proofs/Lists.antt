@@ -24,7 +24,7 @@ use Rattle.fk_check_laws.proofs.PlacedPrograms.{correct_programs_stand_in_place}
 use Rattle.fk_core_counting.proofs.Lists.{typed_lists_tell_levels}
 use Rattle.fk_lower_laws.specs.Asked.{place_by, place_in, place_of, frame_with, frame_of}
 use Rattle.fk_lower_laws.proofs.Programs.{correct_programs_are_asked, mains_have_their_place}
-use Rattle.fk_lower_laws.proofs.Free.{typed_list, lists_are_plain, lists_go_on_within}
+use Rattle.fk_lower_laws.proofs.Free.{typed_list, lists_go_on_within}
 use Rattle.fk_lower_laws.proofs.Runs.{all_run}
 use Rattle.fk_lower_laws.proofs.Suiting.{live_words_suit}
 use Rattle.fk_lower_laws.proofs.Room.{correct_programs_have_room}
@@ -91,7 +91,7 @@ tells_nests program facts valid trim proper fits core entry flat =
     record { local = told.0; knows = told.1; levels = told.2 }
 
 pub correct_lists_are_steady : CorrectListsAreSteady
-correct_lists_are_steady program facts valid trim proper fits plain core entry flat =
+correct_lists_are_steady program facts valid trim proper fits core entry flat =
     let tables = tables_by program facts in
     let main = main_of tables program in
     let asked = correct_programs_are_asked program facts valid trim proper fits in
@@ -102,12 +102,11 @@ correct_lists_are_steady program facts valid trim proper fits plain core entry f
     let known = tells_nests program facts valid trim proper fits core entry flat in
     record {
       within = lists_go_on_within tables program core entry asked (nested_of program facts valid) shaped flat closed;
-      plain = lists_are_plain tables program core entry plain flat;
       may = knowledge_is_enough core (entry main) known.local known.knows;
     }
 
 pub correct_lists_have_frames : CorrectListsHaveFrames
-correct_lists_have_frames program facts valid trim proper fits plain core entry kept lowered =
+correct_lists_have_frames program facts valid trim proper fits core entry kept lowered =
     let tables = tables_by program facts in
     let main = main_of tables program in
     let place = (mains_have_their_place program facts valid).0 in
@@ -140,7 +139,7 @@ module _ (program : ProgramTree) (facts : Facts) (known : ProgramTables) (of : I
       of.tables (λ f b t. lists_have_heights known program core (sym of.items) f b t told) fitting nested typed
 
 pub lowered_lists_can_have_groups : LoweredListsCanHaveGroups
-lowered_lists_can_have_groups program facts known of valid trim proper fits plain core entry flat told =
+lowered_lists_can_have_groups program facts known of valid trim proper fits core entry flat told =
     let tables = tables_by program facts in
     let main = main_of tables program in
     let place = (mains_have_their_place program facts valid).0 in
@@ -150,8 +149,8 @@ lowered_lists_can_have_groups program facts known of valid trim proper fits plai
     record {
       depths = local_depths_are_depths core (entry main) deep;
       enough = λ i op operation stands is_read. (deep.fits i op operation stands is_read).0;
-      steady = correct_lists_are_steady program facts valid trim proper fits plain core entry flat;
+      steady = correct_lists_are_steady program facts valid trim proper fits core entry flat;
       nests = tells_nests program facts valid trim proper fits core entry flat;
       held = λ kept live least.
-          correct_lists_have_frames program facts valid trim proper fits plain core entry kept (record { flat = flat; tall = high; live = live; least = least });
+          correct_lists_have_frames program facts valid trim proper fits core entry kept (record { flat = flat; tall = high; live = live; least = least });
     }

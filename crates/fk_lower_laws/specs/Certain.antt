@@ -10,14 +10,12 @@ use Rattle.fk_sim_block.specs.Stands.{Frames}
 use Rattle.fk_sim_block.specs.Suits.{Suits}
 use Rattle.fk_core_liveness.specs.declared.set.Set.{Set}
 use Rattle.fk_core_liveness.specs.Frames.{kept_in}
-use Rattle.fk_lower_laws.specs.FreeLaws.{IsPlain, GoesOnWithin}
+use Rattle.fk_lower_laws.specs.FreeLaws.{GoesOnWithin}
 use Rattle.fk_lower_laws.specs.Levels.{HasRooms}
 
--- A list of plain operations. It goes on within itself, and in every run each operation may be
--- done.
+-- A list goes on within itself, and in every run each operation may be done.
 pub record IsSteady (core : List CoreOp) (main : ℕ) : Type 0 where
   pub within : GoesOnWithin core main
-  pub plain : IsPlain core
   pub may : AlwaysMay core main
 
 -- Each operation finds the values that it needs.

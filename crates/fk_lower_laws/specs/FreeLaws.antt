@@ -1,17 +1,14 @@
 -- Laws of the flat lists of programs.
-use Rattle.std.specs.Prelude.{◌≡◌, ℕ, ◌+◌, ◌<◌, ◌≤◌, true, List, length, slice_get, false, Some}
-use Rattle.fk_meaning_operation.specs.declared.operation.Operation.{Operation}
+use Rattle.std.specs.Prelude.{◌≡◌, ℕ, ◌+◌, ◌<◌, ◌≤◌, true, List, length, false}
 use Rattle.fk_syntax.specs.Program.{ProgramTree}
 use Rattle.fk_meaning_forms.specs.Code.{Code}
 use Rattle.fk_meaning_forms.specs.Tables.{Tables}
 use Rattle.fk_meaning_forms.specs.Program.{bodies_of, main_of}
 use Rattle.fk_meaning.specs.Shaped.{ProgramShaped}
 use Rattle.fk_core.specs.declared.op.CoreOp.{CoreOp}
-use Rattle.fk_core.specs.Numbers.{operation_of}
 use Rattle.fk_core_flat.specs.Flat.{extent}
 use Rattle.fk_core_flat.specs.Shape.{is_closed}
 use Rattle.fk_core_flat.specs.Laws.{AreShaped, IsFlat}
-use Rattle.fk_compile_text.specs.Plain.{is_plain, ArePlain}
 use Rattle.fk_core_typing.specs.Laws.{LeadsWithin}
 use Rattle.fk_lower_laws.specs.Asked.{ProgramAsked}
 
@@ -28,19 +25,6 @@ FlatListsAreApart =
     (tables : Tables) (program : ProgramTree) (core : List CoreOp) (entry : ℕ → ℕ)
     → (flat : IsFlat (bodies_of tables program) core entry)
     → AreApart (bodies_of tables program) flat.place
-
--- Each operation of a list is plain.
-abbrev pub IsPlain : List CoreOp → Type 0
-IsPlain core =
-    (i : ℕ) (op : CoreOp) (operation : Operation) → slice_get core i ≡ Some op
-    → operation_of op.kind op.number ≡ Some operation
-    → is_plain operation ≡ true
-
-abbrev pub ListsArePlain : Type 0
-ListsArePlain =
-    (tables : Tables) (program : ProgramTree) (core : List CoreOp) (entry : ℕ → ℕ)
-    → ArePlain tables program
-    → IsFlat (bodies_of tables program) core entry → IsPlain core
 
 -- A list goes on within itself from `main` on.
 pub record GoesOnWithin (core : List CoreOp) (main : ℕ) : Type 0 where

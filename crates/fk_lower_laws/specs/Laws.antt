@@ -17,7 +17,6 @@ use Rattle.fk_lower.specs.Depths.{AreTold}
 use Rattle.fk_lower_text.specs.Depths.{depths_of}
 use Rattle.fk_core_liveness.specs.declared.set.Set.{Set}
 use Rattle.fk_core_liveness.specs.Live.{IsLive, IsLeast, words_in}
-use Rattle.fk_compile_text.specs.Plain.{ArePlain}
 use Rattle.fk_parse_laws.specs.Trim.{ProgramIsTrim}
 use Rattle.fk_check_laws.specs.Correct.{IsCorrect}
 use Rattle.fk_core_typing.specs.Laws.{HasHeightsOf}
@@ -43,7 +42,7 @@ CorrectListsAreSteady =
     (program : ProgramTree) (facts : Facts) → IsCorrect program facts → ProgramIsTrim program
     → ProgramIsProper program
     → let tables = tables_by program facts in
-    Fits tables program.items → ArePlain tables program
+    Fits tables program.items
     → (core : List CoreOp) (entry : (binding : ℕ) → ℕ)
     → IsFlat (bodies_of tables program) core entry → IsSteady core (entry (main_of tables program))
 
@@ -57,7 +56,7 @@ CorrectListsHaveFrames =
     (program : ProgramTree) (facts : Facts) → IsCorrect program facts → ProgramIsTrim program
     → ProgramIsProper program
     → let tables = tables_by program facts in
-    Fits tables program.items → ArePlain tables program
+    Fits tables program.items
     → (core : List CoreOp) (entry : (binding : ℕ) → ℕ) (kept : List Set)
     → IsLowered tables program core entry kept
     → HasFrames core kept (entry (main_of tables program)) (count_of_file program facts)
@@ -85,7 +84,7 @@ LoweredListsCanHaveGroups =
     (program : ProgramTree) (facts : Facts) (known : ProgramTables) → IsKnownOf program facts known
     → IsCorrect program facts → ProgramIsTrim program → ProgramIsProper program
     → let tables = tables_by program facts in
-    Fits tables program.items → ArePlain tables program
+    Fits tables program.items
     → (core : List CoreOp) (entry : (binding : ℕ) → ℕ)
     → IsFlat (bodies_of tables program) core entry
     → AreTold (depths_of known (functions_in known)) core

@@ -1,6 +1,5 @@
 pub mod Ways
 pub mod Parts
-pub mod AllOf
 pub mod Asked
 pub mod Typed
 pub mod TypedLaws

@@ -5,7 +5,7 @@ ghost use Rattle.fk_lower_laws.specs.TypedLaws.{FormsAreTyped, MainHasItsPlace};
 ghost use Rattle.fk_lower_laws.specs.Typed.{TypedIsAsked};
 ghost use Rattle.fk_lower_laws.specs.LoweringLaws.{BindingsGoUp, TextsCanBeLaid, FirstsAreFew};
 ghost use Rattle.fk_lower_laws.specs.AskedLaws.{CorrectProgramsAreAsked, MainsHaveTheirPlace};
-ghost use Rattle.fk_lower_laws.specs.FreeLaws.{FlatListsAreApart, ListsArePlain, ListsGoOnWithin};
+ghost use Rattle.fk_lower_laws.specs.FreeLaws.{FlatListsAreApart, ListsGoOnWithin};
 ghost use Rattle.fk_lower_laws.specs.Suiting.{LiveWordsSuit};
 ghost use Rattle.fk_lower_laws.specs.RoomLaws.{ValuesHaveRoom, NamesHaveWords};
 ghost use Rattle.fk_lower_laws.specs.RoomLaws.{CorrectProgramsHaveRoom};
@@ -69,11 +69,6 @@ pub fn flat_lists_are_apart()
     ensures { FlatListsAreApart }
 {}
 
-/// The flat list of a program of which all operations are plain has only plain operations.
-pub fn lists_are_plain()
-    ensures { ListsArePlain }
-{}
-
 /// The flat list of a program with well typed code goes on within itself: its jumps lead to
 /// operations, only an end goes on outside it, and its `main` begins in it.
 pub fn lists_go_on_within()
@@ -119,24 +114,22 @@ pub fn lists_have_heights()
     ensures { ListsHaveHeights }
 {}
 
-/// A flat list of a program that keeps all rules, as a text spells it, and has a layout, has only
-/// plain operations, goes on within itself from `main` on, and may do each operation in every run,
-/// also with groups, if all operations are plain.
+/// A flat list of a program that keeps all rules, as a text spells it, and has a layout, goes on
+/// within itself from `main` on, and may do each operation in every run, also with groups.
 pub fn correct_lists_are_steady()
     ensures { CorrectListsAreSteady }
 {}
 
 /// A flat list of a program that keeps all rules, as a text spells it, and has a layout, with the
 /// depths of its code and its live words, suits frames that keep these words and have room for its
-/// levels, if all operations are plain.
+/// levels.
 pub fn correct_lists_have_frames()
     ensures { CorrectListsHaveFrames }
 {}
 
 /// A flat list of a program that keeps all rules, as a text spells it, and has a layout, with the
 /// depths that lowering gives for the text, has the depths of all runs, finds the values that each
-/// operation needs, is steady, tells its nests, and has frames that keep its live words, if all
-/// operations are plain.
+/// operation needs, is steady, tells its nests, and has frames that keep its live words.
 pub fn lowered_lists_can_have_groups()
     ensures { LoweredListsCanHaveGroups }
 {}

@@ -202,7 +202,7 @@ read_built : (source : List ℕ) (image : Image) → IsFaithful (take 1048577 so
 read_built source image b =
     subst IsText (read_short source b.short) (record {
       short = b.short;
-      built = record { laid = record { tree = b.program; facts = b.facts; checked = b.checked; fits = b.fits }; built = b.built };
+      laid = record { tree = b.program; facts = b.facts; checked = b.checked; fits = b.fits };
     })
 
 read_image : (bytes : List ℕ) (image : Image) → IsImageOf bytes image → take 5434905 bytes ≡ bytes

@@ -40,11 +40,9 @@ use Rattle.fk_elf.specs.Files.{IsElfOf}
 use Rattle.fk_elf.proofs.Faults.{no_refusal as no_elf_refusal}
 use Rattle.fk_elf.proofs.Files.{file-long, small}
 use Rattle.fk_compile_text.specs.declared.refusal.Refusal.{Refusal}
-use Rattle.fk_compile_text.specs.declared.refusal.Refusal.TheVariants.{BadByte, OpenComment, OpenString, WideNumber, Unexpected, EndOfText, Nesting, Rule, TooManySites, FrameTooLarge, GlobalsTooLarge, SourceTooLong, NotBuilt, Memory}
+use Rattle.fk_compile_text.specs.declared.refusal.Refusal.TheVariants.{BadByte, OpenComment, OpenString, WideNumber, Unexpected, EndOfText, Nesting, Rule, TooManySites, FrameTooLarge, GlobalsTooLarge, SourceTooLong, Memory}
 use Rattle.fk_compile_text.specs.Refusal.{IsRefusedText}
-use Rattle.fk_compile_text.specs.Built.{operations_of}
-use Rattle.fk_compile_text.specs.Plain.{is_plain, ArePlain}
-use Rattle.fk_compile_text.specs.Text.{HasTree, HasSyntaxFault, HasBrokenRule, HasGlobal, HasLayout, IsChecked, IsNotBuilt}
+use Rattle.fk_compile_text.specs.Text.{HasTree, HasSyntaxFault, HasBrokenRule, HasGlobal, HasLayout, IsChecked}
 use Rattle.fk_compile.specs.Faithful.{words_by}
 use Rattle.fk_top.specs.declared.report.Report.{Report}
 use Rattle.fk_top.specs.Refused.{IsRefusedBy, IsNoElfAs, IsNoImageAs, refusal_line}
@@ -112,37 +110,22 @@ same_words source one other by with checked again =
     ap (λ (t : ProgramTree). words_by t by) same
     ∙ (ap (λ (ns : List Note). words (told ns by.kinds.items) other.items) facts.notes ∙ ap (λ (ks : List Kind). words (told with.notes.items ks) other.items) facts.kinds)
 
--- a text that is built has no `fork`
-built_or_not : (source : List ℕ) → IsText source → IsNotBuilt source → ⊥
-built_or_not source text other =
-    let tree = other.laid.tree in
-    let laid = text.built.laid in
-    let same = same_tree source laid.tree tree laid.checked.parsed other.laid.checked.parsed in
-    let known = subst (λ (t : ProgramTree). AreAllFacts t laid.facts) same laid.checked.known in
-    let tables = same_tables tree laid.facts other.laid.facts (one_facts tree laid.facts other.laid.facts known other.laid.checked.known) in
-    let built = subst (λ (t : ProgramTree). ArePlain (tables_by t laid.facts) t) same text.built.built in
-    let here = subst (λ (t : Tables). ArePlain t tree) tables built in
-    let is = All-contains (λ op. is_plain op ≡ true) (operations_of (tables_by tree other.laid.facts) tree) _ here other.forks in
-    let bad : true ≡ false = sym is in
-    absurd (cc)
-
 not_refused : (source : List ℕ) (refusal : Refusal) (line : List ℕ) → IsText source → IsRefusedText source refusal → refusal_line refusal ≡ Some line → ⊥
-not_refused source (BadByte place) line text refused says = lexed.one_reading.apart source text.built.laid.checked.parsed.tokens _ text.built.laid.checked.parsed.spelled refused.1
-not_refused source (OpenComment place) line text refused says = lexed.one_reading.apart source text.built.laid.checked.parsed.tokens _ text.built.laid.checked.parsed.spelled refused.1
-not_refused source (OpenString place) line text refused says = lexed.one_reading.apart source text.built.laid.checked.parsed.tokens _ text.built.laid.checked.parsed.spelled refused.1
-not_refused source (WideNumber place) line text refused says = lexed.one_reading.apart source text.built.laid.checked.parsed.tokens _ text.built.laid.checked.parsed.spelled refused.1
-not_refused source (Unexpected place) line text refused says = not_faulty source text.built.laid.tree (syntax_fault.Unexpected place) text.built.laid.checked.parsed refused.1
-not_refused source EndOfText line text refused says = not_faulty source text.built.laid.tree syntax_fault.EndOfText text.built.laid.checked.parsed refused.1
-not_refused source (Nesting place) line text refused says = not_faulty source text.built.laid.tree (syntax_fault.Nesting place) text.built.laid.checked.parsed refused.1
-not_refused source (Rule place number) line text refused says = kept_or_not source place number text.built.laid refused.1
+not_refused source (BadByte place) line text refused says = lexed.one_reading.apart source text.laid.checked.parsed.tokens _ text.laid.checked.parsed.spelled refused.1
+not_refused source (OpenComment place) line text refused says = lexed.one_reading.apart source text.laid.checked.parsed.tokens _ text.laid.checked.parsed.spelled refused.1
+not_refused source (OpenString place) line text refused says = lexed.one_reading.apart source text.laid.checked.parsed.tokens _ text.laid.checked.parsed.spelled refused.1
+not_refused source (WideNumber place) line text refused says = lexed.one_reading.apart source text.laid.checked.parsed.tokens _ text.laid.checked.parsed.spelled refused.1
+not_refused source (Unexpected place) line text refused says = not_faulty source text.laid.tree (syntax_fault.Unexpected place) text.laid.checked.parsed refused.1
+not_refused source EndOfText line text refused says = not_faulty source text.laid.tree syntax_fault.EndOfText text.laid.checked.parsed refused.1
+not_refused source (Nesting place) line text refused says = not_faulty source text.laid.tree (syntax_fault.Nesting place) text.laid.checked.parsed refused.1
+not_refused source (Rule place number) line text refused says = kept_or_not source place number text.laid refused.1
 not_refused source (TooManySites count) line text refused says =
-    laid_or_refused source refused.1.tree refused.1.facts (layout.TooManySites count) text.built.laid refused.1.checked refused.1.refused (λ e. cc)
+    laid_or_refused source refused.1.tree refused.1.facts (layout.TooManySites count) text.laid refused.1.checked refused.1.refused (λ e. cc)
 not_refused source (FrameTooLarge name words) line text refused says =
-    laid_or_refused source refused.1.tree refused.1.facts (layout.FrameTooLarge refused.1.place words) text.built.laid refused.1.checked refused.1.refused (λ e. cc)
+    laid_or_refused source refused.1.tree refused.1.facts (layout.FrameTooLarge refused.1.place words) text.laid refused.1.checked refused.1.refused (λ e. cc)
 not_refused source (GlobalsTooLarge words) line text refused says =
-    laid_or_refused source refused.1.tree refused.1.facts (layout.GlobalsTooLarge words) text.built.laid refused.1.checked refused.1.refused (λ e. cc)
+    laid_or_refused source refused.1.tree refused.1.facts (layout.GlobalsTooLarge words) text.laid refused.1.checked refused.1.refused (λ e. cc)
 not_refused source (SourceTooLong bytes) line text refused says = let short = text.short in absurd (omega (arith, refused.0, refused.1))
-not_refused source NotBuilt line text refused says = built_or_not source text refused.1
 not_refused source (Memory e) line text refused says = cc
 
 pub text_accepted : (source : List ℕ) (line : List ℕ) → IsText source → IsRefusedBy source line → ⊥

@@ -14,7 +14,7 @@ use Rattle.fk_image.specs.Spelling.{IsImageOf}
 use Rattle.fk_elf.specs.Files.{IsElfOf}
 use Rattle.fk_machine.specs.Run.{machine}
 use Rattle.fk_layout_globals.specs.Rows.{Row}
-use Rattle.fk_compile_text.specs.Text.{IsBuilt, IsChecked}
+use Rattle.fk_compile_text.specs.Text.{HasLayout, IsChecked}
 use Rattle.fk_compile.specs.Faithful.{IsFaithful, words_by}
 use Rattle.fk_top_input.specs.Input.{input_of}
 use Rattle.fk_top_words.specs.Command.{Command, Run, Build, Exec, ListCode, Elf}
@@ -252,11 +252,10 @@ pub record IsInOrder (call : Call) (command : Command) (bytes text : List ℕ) :
   pub out_steady : ¬ Rose call.out.faults
   pub err_steady : ¬ Rose call.err.faults
 
--- A text of at most 1,048,576 bytes, which keeps the rules of the language, has a layout and is
--- built.
+-- A text of at most 1,048,576 bytes, which keeps the rules of the language and has a layout.
 pub record IsText (source : List ℕ) : Type 0 where
   pub short : length source ≤ most_text_bytes
-  pub built : IsBuilt source
+  pub laid : HasLayout source
 
 -- The bytes of an image.
 abbrev pub IsImage : List ℕ → Type 0

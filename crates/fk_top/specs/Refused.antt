@@ -29,7 +29,6 @@ refusal_line (refusal.TooManySites count) = Some (line_of (reports.TooManySites 
 refusal_line (refusal.FrameTooLarge name words) = Some (frame_line name.items words)
 refusal_line (refusal.GlobalsTooLarge words) = Some (line_of (reports.GlobalsTooLarge words))
 refusal_line (refusal.SourceTooLong bytes) = Some (line_of (reports.SourceTooLong bytes))
-refusal_line refusal.NotBuilt = Some (line_of reports.NotBuilt)
 refusal_line (refusal.Memory e) = None
 
 -- The report of why bytes are no image. `Memory` has none.

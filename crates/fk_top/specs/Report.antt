@@ -19,7 +19,7 @@ use Rattle.fk_top.specs.declared.report.Report.TheVariants.{Nesting, Rule, TooMa
 use Rattle.fk_top.specs.declared.report.Report.TheVariants.{GlobalsTooLarge, SourceTooLong, Magic}
 use Rattle.fk_top.specs.declared.report.Report.TheVariants.{Version, Short, LongTail, BadTable}
 use Rattle.fk_top.specs.declared.report.Report.TheVariants.{BadWord, NotANumber, OutOfRange}
-use Rattle.fk_top.specs.declared.report.Report.TheVariants.{TooMany, NotBuilt, CommandLine}
+use Rattle.fk_top.specs.declared.report.Report.TheVariants.{TooMany, CommandLine}
 use Rattle.fk_top.specs.declared.report.Report.TheVariants.{ReadFault, Wrote}
 use Rattle.fk_top.specs.declared.report.Report.TheVariants.{ElfHeader, ElfShort, ElfTail}
 use Rattle.fk_top.specs.declared.report.Report.TheVariants.{ElfSizes, ElfTable}
@@ -98,7 +98,6 @@ text_of (BadWord word) = codes "refused 18 BadWord " ++ decimal word
 text_of (NotANumber word) = codes "refused 19 NotANumber " ++ decimal word
 text_of (OutOfRange word) = codes "refused 20 OutOfRange " ++ decimal word
 text_of (TooMany word) = codes "refused 21 TooMany " ++ decimal word
-text_of NotBuilt = codes "refused 22 NotBuilt"
 text_of (ElfHeader offset) = codes "refused 27 ElfHeader " ++ decimal offset
 text_of (ElfShort bytes wanted) =
     codes "refused 28 ElfShort " ++ decimal bytes ++ codes " " ++ decimal wanted

@@ -30,7 +30,6 @@ pub fn last_line_of<'a>(refusal: Refusal) -> Option<LastLine<'a>>
         Refusal::FrameTooLarge(name, words) => return Some(LastLine::FrameTooLarge(name, words)),
         Refusal::GlobalsTooLarge(words) => Report::GlobalsTooLarge(words),
         Refusal::SourceTooLong(bytes) => Report::SourceTooLong(bytes),
-        Refusal::NotBuilt => Report::NotBuilt,
         Refusal::Memory(_) => return None,
     };
     Some(LastLine::Reported(report))

@@ -80,8 +80,6 @@ pub enum Report {
     OutOfRange(u32),
     /// This word of the input is one too many; or, as 0, the input text is too long.
     TooMany(u32),
-    /// The source has a `fork`, which isn't built.
-    NotBuilt,
     /// This byte of the ELF file isn't that of the headers which its own sizes demand.
     ElfHeader(u32),
     /// The ELF file has this many bytes, fewer than it needs, which is the second number.
@@ -151,7 +149,6 @@ impl Report {
             Report::NotANumber(word) => numbered(b"refused 19 NotANumber ", u64::from(word)),
             Report::OutOfRange(word) => numbered(b"refused 20 OutOfRange ", u64::from(word)),
             Report::TooMany(word) => numbered(b"refused 21 TooMany ", u64::from(word)),
-            Report::NotBuilt => plain(b"refused 22 NotBuilt"),
             Report::ElfHeader(offset) => numbered(b"refused 27 ElfHeader ", u64::from(offset)),
             Report::ElfShort(bytes, wanted) => short_text(b"refused 28 ElfShort ", bytes, wanted),
             Report::ElfTail(wanted) => numbered(b"refused 29 ElfTail ", wanted),

@@ -65,10 +65,7 @@ pub returns-clause-rows : goal.returns-clause-rows
 returns-clause-rows c =
     let text = c.in_ok-text.text in
     record {
-      built = record {
-        laid = record { tree = program_of text.tree; facts = text.facts; checked = c.in_ok-text.ensures.checked; fits = c.in_ok-text.ensures.fits };
-        built = c.in_ok-text.ensures.built;
-      };
+      laid = record { tree = program_of text.tree; facts = text.facts; checked = c.in_ok-text.ensures.checked; fits = c.in_ok-text.ensures.fits };
       are = c.in_ok-text.ensures.laid.rows;
     }
 
@@ -91,7 +88,6 @@ returns-clause-faithful c =
       facts = text.facts;
       checked = c.in_ok-text.ensures.checked;
       fits = c.in_ok-text.ensures.fits;
-      built = c.in_ok-text.ensures.built;
       faithful =
           is_faithful tree text.facts list.ops.items list.main image c.machines_follow_trees.ensures c.programs_are_followed.ensures
           (is_compiled tree text.facts layout c.in_ok-text.ensures.laid c.in_ok-text.ensures.fits list.ops.items kept.items saved.items list.main code image

@@ -47,7 +47,7 @@ returns-clause-grouped c =
     (λ list. AreTold (depths_of known (functions_in known)) list.ops.items)
     (λ list. IsGrouped list.ops.items list.main (count_of_file tree text.facts)) c.lowered.result
     (λ list is sites told.
-    grouped_list tree text.facts known p c.lowered_lists_can_have_groups.ensures c.plain_lists_have_blocks.ensures c.lists_are_of_tree.ensures c.requires.plain
+    grouped_list tree text.facts known p c.lowered_lists_can_have_groups.ensures c.lists_have_blocks.ensures c.lists_are_of_tree.ensures
     list.ops.items list.main is sites told)
     (c.lowered.ensures.list tree can) (c.lowered.ensures.sites tree can) (c.lowered.ensures.told tree can)
 

@@ -8,7 +8,7 @@ use Rattle.fk_core.specs.Numbers.{operation_of}
 use Rattle.fk_core.specs.WellFormed.{IsOperation, LeadsOn}
 use Rattle.fk_sim_block.proofs.Standing.{landing_here}
 use Rattle.fk_compile.proofs.Rooms.{level_words, shrinks_deep, parts_deep}
-use Rattle.fk_compile.specs.PlainLists.{GroupedListsAreGenerable}
+use Rattle.fk_compile.specs.ListLaws.{GroupedListsAreGenerable}
 
 -- what is no jump is where an index leads, so it is an operation
 are_operations : (core : List CoreOp) → LeadsOn core → (i : ℕ) (op : CoreOp) → slice_get core i ≡ Some op → is_jump op ≡ false

@@ -1,4 +1,4 @@
--- Lists without a `fork` have what code needs.
+-- Flat lists have what code needs.
 use Rattle.std.specs.Prelude.{◌≡◌, ℕ, ◌^◌, ◌<◌, ◌≤◌, List, All, length, sum_by}
 use Rattle.fk_meaning_operation.specs.declared.operation.Operation.{Operation}
 use Rattle.fk_meaning_forms.specs.Code.{Code}
@@ -17,7 +17,6 @@ use Rattle.fk_core_typing.specs.Laws.{LeadsWithin}
 use Rattle.fk_gen.specs.declared.placed.Levels.{Levels}
 use Rattle.fk_gen_list.specs.Generable.{HasBlocks, IsGenerable, most_words}
 use Rattle.fk_gen_list.specs.Laws.{StepsHaveValues}
-use Rattle.fk_lower_laws.specs.FreeLaws.{IsPlain}
 use Rattle.fk_lower_laws.specs.Certain.{HasEnough}
 use Rattle.fk_lower_laws.specs.Laws.{CanHaveGroups}
 
@@ -29,11 +28,11 @@ StraightHasNoTarget =
     → (i : ℕ) (op : CoreOp) (operation : Operation) → OpAt core i op operation
     → way_of operation ≡ straight → op.target ≡ 0
 
-abbrev pub PlainListsHaveBlocks : Type 0
-PlainListsHaveBlocks =
+abbrev pub ListsHaveBlocks : Type 0
+ListsHaveBlocks =
     (bodies : (binding : ℕ) → Code ℕ) (core : List CoreOp) (entry : (binding : ℕ) → ℕ)
     → AreShaped bodies → IsFlat bodies core entry
-    → IsPlain core → LeadsWithin core → HasBlocks core
+    → LeadsWithin core → HasBlocks core
 
 abbrev pub StepsFindValues : Type 0
 StepsFindValues = (core : List CoreOp) → HasEnough core → StepsHaveValues core
