@@ -33,8 +33,8 @@ pub fn groups_begin()
     ensures { GroupsBegin }
 {}
 
-/// A plain list that has all its levels has the whole law of blocks in an image with its opening,
-/// its blocks and the code that they share. In a plain list no `fork` splits a group.
+/// A list with room for all its levels has the whole law of blocks in an image with its opening,
+/// its blocks and the code that they share. The law says nothing of a `fork`.
 pub fn code_has_the_law()
     ensures { CodeHasTheLaw }
 {}
