@@ -3,3 +3,4 @@ pub mod Settling
 pub mod Telling
 pub mod Swept
 pub mod Lasts
+pub mod Opened

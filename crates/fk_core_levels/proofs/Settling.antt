@@ -1,6 +1,11 @@
 -- The levels of a list, as far as they are found.
+<<<<<<< HEAD
 use Rattle.std.proofs.Common.{◌≡◌, ℕ, zero, suc, ◌<◌, ◌≤◌, Bool, false, List, [], ◌∷◌, length, slice_get, Some, map, ap, refl, ◌∙◌, arith, ◌⊎◌, inl, inr, true}
 use Rattle.std.specs.Prelude.{if◌then◌else◌, Option, None}
+=======
+use Rattle.std.proofs.Common.{◌≡◌, ℕ, zero, suc, ◌<◌, ◌≤◌, Bool, true, false, List, [], ◌∷◌, length, slice_get, Some, None, map, ap, refl, ◌∙◌, arith, ◌⊎◌, inl, inr}
+use Rattle.std.specs.Prelude.{if◌then◌else◌, Option}
+>>>>>>> 817ed130296682b031fcb7d4a365ee33d9f0a29d
 use Rattle.fk_meaning_operation.specs.declared.operation.Operation.{Operation}
 use Rattle.fk_meaning_operation.specs.declared.operation.Operation.TheVariants.{Get, Set}
 use Rattle.fk_meaning_operation.specs.declared.operation.OwnValue.TheVariants.{Value}

@@ -76,12 +76,8 @@ impl OpenParts {
     fn open(&mut self, by: SplitKind) -> Result<(), AllocError>
         ensures { OnOk result (parts_of self.new ≡ f.opened by (parts_of self.old)) }
     {
-        let fork = match by {
-            SplitKind::Fork => Some(self.words),
-            _ => None,
-        };
         self.parts.push(Open {
-            fork,
+            fork: left_by(by, self.words),
             words: self.words,
         })?;
         self.words = 0;
@@ -95,5 +91,15 @@ impl OpenParts {
         if nesting != 0 {
             self.words = words;
         }
+    }
+}
+
+// How a split leaves a group with a frame of so many words.
+fn left_by(by: SplitKind, words: u32) -> Option<u32>
+    ensures { result ≡ f.left_by by words }
+{
+    match by {
+        SplitKind::Fork => Some(words),
+        _ => None,
     }
 }

@@ -2,6 +2,7 @@
 use Rattle.std.proofs.Common.{◌≡◌, ◌≢◌, ℕ, zero, suc, ◌+◌, ◌-◌, ◌*◌, ◌^◌, ◌<◌, ◌≤◌, List, [], ◌∷◌, ◌++◌, length, map, Bool, true, false, Option, Some, None, sym, ap, subst, ◌∙◌, arith, refl}
 use Rattle.std.specs.Prelude.{◌==◌, All, if◌then◌else◌}
 use Rattle.std.proofs.lemmas.Bool.{ne_eqb}
+use Rattle.std.proofs.lemmas.List.Elements.{All-head}
 use Rattle.fk_num.specs.Word.{Memory, put, word_sum}
 use Rattle.fk_space.specs.Space.{Space, IsSpace, equal_part}
 use Rattle.fk_meaning_operation.specs.declared.operation.SplitKind.TheVariants.{Fork}
@@ -268,7 +269,7 @@ module _ (core : List CoreOp) (image : Image) (bound : ℕ → ℕ) (places : Pl
 
           last_is_word : (vs : List ℕ) → All (λ v. v < 2 ^ 32) vs → last vs < 2 ^ 32
           last_is_word [] all = omega arith
-          last_is_word (v ∷ vs) all = all.0
+          last_is_word (v ∷ vs) all = All-head (λ v. v < 2 ^ 32) v vs all
 
       abbrev gate : Hart
       gate = entering image bound places split.parts t m.number link op.target op.site holds place.block.labels ready.front.back m.hart live linked nought h0 saved (word_at space first count (Some j)) (size p) (equal_part space count) j

@@ -148,7 +148,7 @@ module _ (core : List CoreOp) (image : Image) (bound : ℕ → ℕ) (places : Pl
         let room = place.levels.room in
         is_slot places n (out + k) m.hart place.few en.ready.in_range.waiting (omega arith) en.at.stands.frame
 
-    pub first_slot : IsSlot places n out m.hart
+    first_slot : IsSlot places n out m.hart
     first_slot =
         let levels = opens.levels in
         let room = place.levels.room in
@@ -297,7 +297,7 @@ module _ (core : List CoreOp) (image : Image) (bound : ℕ → ℕ) (places : Pl
     kept told = ends_keep told first short number m.hart (fronted told m.hart)
 
     -- it stands for its processor in the group around its part
-    pub back : (told : Told)
+    back : (told : Told)
         → IsMember places nestings setting None (first_word part.around (part.beyond ∷ part.further)) (record m { hart = gone told m.hart })
         (left_on (part.around ∷ (part.beyond ∷ part.further)) (values p.runner.has) p)
     back told =
@@ -383,7 +383,7 @@ module _ (core : List CoreOp) (image : Image) (bound : ℕ → ℕ) (places : Pl
       (record { hart = gone (told_of (later cycle0) m.number) all.0.hart; runs = runs_at m p holds all.0; member = back_at m p all.0 }, all_gone highest size ms ps holds all.1)
   all_gone highest size ms ps holds all = absurd (assumption all)
 
-  pub came_all : (ms : List Member) (ps : List Owner) → AllEnter core image places nestings i op End setting cycle0 None begin ms ps → AreInPart nestings ps → Both Came ms ps
+  came_all : (ms : List Member) (ps : List Owner) → AllEnter core image places nestings i op End setting cycle0 None begin ms ps → AreInPart nestings ps → Both Came ms ps
   came_all [] [] all part = tt
   came_all (m ∷ ms) (p ∷ ps) all part = (record { enters = all.0; member = all.1; part = part.0 }, came_all ms ps all.2 part.1)
   came_all ms ps all part = absurd (assumption all)
@@ -397,7 +397,7 @@ module _ (core : List CoreOp) (image : Image) (bound : ℕ → ℕ) (places : Pl
       let slot = first_slot m p came in
       can_run_goes (Lw size_register frame_register (at_private out)) (LocalAt (slot_of out m.hart)) m.hart (slot.within, slot.address) cycle0 m.number s
 
-  pub together : (highest : ℕ) (size : Owner → ℕ) (ms : List Member) (ps : List Owner) (own : Memory) → Holds image cycle0 → Both Came ms ps
+  together : (highest : ℕ) (size : Owner → ℕ) (ms : List Member) (ps : List Owner) (own : Memory) → Holds image cycle0 → Both Came ms ps
       → Together (core_source core setting) image mine cycle0 1 0 ms ps own
       (λ ms' ds own'. (ds ≡ map (is_due core i op End) ps) × (Gone highest size ms' ps × (own' ≡ own)))
   together highest size ms ps own holds all =

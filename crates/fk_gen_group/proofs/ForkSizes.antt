@@ -3,7 +3,7 @@ use Rattle.std.proofs.Common.{◌≡◌, ℕ, zero, suc, ◌+◌, ◌-◌, ◌*�
 use Rattle.std.specs.Prelude.{nat_lt, is_some, if◌then◌else◌}
 use Rattle.std.specs.Int.{from_bool}
 use Rattle.std.proofs.Math.Nat.{mul-le-mul_right, mul_left_comm, le-div_iff_mul-le, mul-div-le, add-mul-div_right}
-use Rattle.std.proofs.lemmas.Bool.{lt-ltb, le-ltb, ltb-true, cases_lt}
+use Rattle.std.proofs.lemmas.Bool.{ne_eqb, lt-ltb, le-ltb, ltb-true, cases_lt}
 use Rattle.fk_num.specs.Op.{quotient}
 use Rattle.fk_space.specs.Space.{Space, IsSpace, share, free, equal_part}
 use Rattle.fk_meaning_operation.specs.declared.operation.SplitKind.TheVariants.{Fork}
@@ -26,27 +26,30 @@ needs_words s c e = elim (cases_lt (free s) (4 * suc c)) [
   ]
 ]
 
+quotient_is : (a c : ℕ) → quotient a (suc c) ≡ a / suc c
+quotient_is a c = ap (λ b. if b then 2 ^ 32 - 1 else a / suc c) (ne_eqb (suc c) 0 (λ e. omega arith))
+
 pub room_of : (s : Space) (k : ℕ) → has_parts s k ≡ true → 20 ≤ quotient (free s) k
 room_of s zero e = omega arith
 room_of s (suc c) e =
     let words = needs_words s c e in
-    (le-div_iff_mul-le {k = suc c} {x = 20} {y = free s} (omega arith)).1 words
+    subst (λ q. 20 ≤ q) (sym (quotient_is (free s) c)) ((le-div_iff_mul-le {k = suc c} {x = 20} {y = free s} (omega arith)).1 words)
 
 pub full_of : (s : Space) (k : ℕ) → has_parts s k ≡ false → quotient (free s) k < 20
 full_of s zero e = absurd (cc)
-full_of s (suc c) e = elim (cases_lt (free s / suc c) 20) [
+full_of s (suc c) e = subst (λ q. q < 20) (sym (quotient_is (free s) c)) (elim (cases_lt (free s / suc c) 20) [
   | inl lt ↦ lt
   | inr le ↦
       let words = (le-div_iff_mul-le {k = suc c} {x = 20} {y = free s} (omega arith)).0 le in
       let rest : 16 * suc c ≤ free s - 4 * suc c = omega (arith, words) in
       absurd (both_ways (has_parts s (suc c)) (enough s (suc c) (omega (arith, words)) ((le-div_iff_mul-le {k = suc c} {x = 16} {y = free s - 4 * suc c} (omega arith)).1 rest)) e)
-]
+])
 
 pub share_of : (s : Space) (c : ℕ) → has_parts s (suc c) ≡ true → quotient (free s) (suc c) ≡ equal_part s (suc c) + 4
 share_of s c e =
     let words = needs_words s c e in
     let whole : free s ≡ free s - 4 * suc c + 4 * suc c = omega (arith, words) in
-    ap (λ x. x / suc c) whole ∙ add-mul-div_right (free s - 4 * suc c) 4 {suc c} (omega arith)
+    quotient_is (free s) c ∙ ap (λ x. x / suc c) whole ∙ add-mul-div_right (free s - 4 * suc c) 4 {z = suc c} (omega arith)
 
 -- ---- a part lies in the free words
 
@@ -92,25 +95,22 @@ part_within i k o e = by (nat_lt i k) refl e
     by true lt e = subst (Within k) e (ltb-true i k lt)
     by false lt e = subst (Within k) e tt
 
--- the number of the part that a processor enters
-pub number_of_part : (p : Owner) (j : ℕ) → part_of Fork p ≡ Some j → (last (before 1 (values p.runner.has)) ≡ j) × (j < parts_of Fork p)
-number_of_part p j e = by (nat_lt i k) refl e
+abbrev told_part : Option ℕ → ℕ
+told_part None = 0
+told_part (Some x) = x
+
+entered_part : (i k j : ℕ) → (if nat_lt i k then Some i else None) ≡ Some j → (i ≡ j) × (j < k)
+entered_part i k j e = by (nat_lt i k) refl e
   where
-    abbrev i : ℕ
-    i = last (before 1 (values p.runner.has))
-
-    abbrev k : ℕ
-    k = parts_of Fork p
-
-    told : (o : Option ℕ) → ℕ
-    told None = 0
-    told (Some x) = x
-
     by : (b : Bool) → nat_lt i k ≡ b → (if b then Some i else None) ≡ Some j → (i ≡ j) × (j < k)
     by true lt e =
-        let same : i ≡ j = ap told e in
+        let same : i ≡ j = ap told_part e in
         (same, subst (λ x. x < k) same (ltb-true i k lt))
     by false lt e = absurd (cc)
+
+-- the number of the part that a processor enters
+pub number_of_part : (p : Owner) (j : ℕ) → part_of Fork p ≡ Some j → (last (before 1 (values p.runner.has)) ≡ j) × (j < parts_of Fork p)
+number_of_part p j e = entered_part (last (before 1 (values p.runner.has))) (parts_of Fork p) j e
 
 module _ (space : Space) (first k : ℕ) (is_space : IsSpace space) (low : first ≡ space.low) (room : has_parts space k ≡ true) where
   -- a part that there is

@@ -46,7 +46,7 @@ use Rattle.fk_gen_group.proofs.Committed.{waits, comes_with, none_enters, child_
 use Rattle.fk_gen_group.proofs.Divided.{Divided, all_divided}
 use Rattle.fk_gen_group.proofs.ForkSizes as sizes
 use Rattle.fk_gen_group.proofs.ForkSizes.{entry, counted_fork, number_of_part, few_parts}
-use Rattle.fk_gen_group.proofs.Forks.{Fronted, IsPlaced, fork_fronted, is_placed, fork_link, ends_within}
+use Rattle.fk_gen_group.proofs.Forks.{Fronted, IsPlaced, fork_fronted, is_placed, fork_link}
 
 -- ---- the lines behind the commit
 
@@ -91,7 +91,7 @@ pub record IsBehind (first h : Hart) (saved word size share index rank : ℕ) : 
   pub others : (r : ℕ) → r ≢ 1 → r ≢ 5 → r ≢ 6 → r ≢ 7 → r ≢ 28 → r ≢ 29 → r ≢ 30 → r ≢ 31 → h.registers r ≡ first.registers r
 
 -- `@` beside the size
-abbrev size_word : Hart → ℕ
+abbrev pub size_word : Hart → ℕ
 size_word first = word_sum (applied num.Shl (first.registers number_register) 11) (first.registers size_register)
 
 -- what the lines that save leave

@@ -12,7 +12,7 @@ use Rattle.fk_meaning.specs.Processor.{Setting, values}
 use Rattle.fk_meaning.specs.Group.{parts, has_parts}
 use Rattle.fk_core.specs.declared.op.CoreOp.{CoreOp}
 use Rattle.fk_image.specs.declared.Image.{Image}
-use Rattle.fk_isa.specs.declared.instruction.Instruction.TheVariants.{Lui, Jalr, Sw, Addi, Sub}
+use Rattle.fk_isa.specs.declared.instruction.Instruction.TheVariants.{Lui, Jal, Jalr, Sw, Addi, Sub}
 use Rattle.fk_machine.specs.declared.stand.Stand.TheVariants.{Faulted}
 use Rattle.fk_machine.specs.Place.{place_of}
 use Rattle.fk_machine.specs.Hart.{Hart, Stops, Setting as MachineSetting}

@@ -234,7 +234,7 @@ fn emit_heading(into: &mut Assembler, by: SplitKind, levels: Levels) -> Result<(
 }
 
 fn emit_first_heading(into: &mut Assembler, count: u32) -> Result<(), AllocError>
-    requires room { length into.old.lines + 1 < 2 ^ 30 }
+    requires room { length into.old.lines + length (s.heading_by count) < 2 ^ 30 }
     requires free { AreFollowed into.old }
     ensures added { OnOk result (into.new ≡ with_block into.old (s.heading_by count)) }
     ensures begun { OnErr result (HasBegun (s.heading_by count) into.old into.new) }

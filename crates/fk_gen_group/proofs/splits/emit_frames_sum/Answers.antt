@@ -1,19 +1,19 @@
 -- The lines of the sum and the one that takes it are the code.
-use Rattle.std.proofs.Common.{◌*◌, map, arith, refl, length-append}
+use Rattle.std.proofs.Common.{◌≡◌, ◌+◌, ◌*◌, length, map, arith, refl, length-append}
 use Rattle.fk_gen.specs.Lines.{quiet, add_number}
 use Rattle.fk_gen.proofs.Emitted.{on_err, on_ok, when_err, many_lines, followed, added_both, begun_front, begun_behind}
-use Rattle.fk_gen_group.specs.Splits.{found_line}
+use Rattle.fk_gen_group.specs.Splits.{found_line, frames_sum}
 use Rattle.fk_gen_group.proofs.splits.emit_frames_sum.Goals as goal
 
 pub emit_sum-requires-clause-room : goal.emit_sum-requires-clause-room
 emit_sum-requires-clause-room c =
-    let all = length-append (map quiet (add_number (32 + 4 * c.args.words) 10)) found_line in
+    let all : length (frames_sum c.args.words) ≡ length (map quiet (add_number (32 + 4 * c.args.words) 10)) + length found_line = length-append (map quiet (add_number (32 + 4 * c.args.words) 10)) found_line in
     let room = c.requires.room in
     omega arith
 
 pub emit_found-requires-clause-room : goal.emit_found-requires-clause-room
 emit_found-requires-clause-room c =
-    let all = length-append (map quiet (add_number (32 + 4 * c.args.words) 10)) found_line in
+    let all : length (frames_sum c.args.words) ≡ length (map quiet (add_number (32 + 4 * c.args.words) 10)) + length found_line = length-append (map quiet (add_number (32 + 4 * c.args.words) 10)) found_line in
     let more = many_lines c.args.into.now c.emit_sum.new.into (map quiet (add_number (32 + 4 * c.args.words) 10)) _ c.in_ok-emit_sum.ensures.added refl in
     let room = c.requires.room in
     omega arith
