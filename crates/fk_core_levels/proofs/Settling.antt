@@ -1,11 +1,6 @@
 -- The levels of a list, as far as they are found.
-<<<<<<< HEAD
-use Rattle.std.proofs.Common.{◌≡◌, ℕ, zero, suc, ◌<◌, ◌≤◌, Bool, false, List, [], ◌∷◌, length, slice_get, Some, map, ap, refl, ◌∙◌, arith, ◌⊎◌, inl, inr, true}
-use Rattle.std.specs.Prelude.{if◌then◌else◌, Option, None}
-=======
 use Rattle.std.proofs.Common.{◌≡◌, ℕ, zero, suc, ◌<◌, ◌≤◌, Bool, true, false, List, [], ◌∷◌, length, slice_get, Some, None, map, ap, refl, ◌∙◌, arith, ◌⊎◌, inl, inr}
 use Rattle.std.specs.Prelude.{if◌then◌else◌, Option}
->>>>>>> 817ed130296682b031fcb7d4a365ee33d9f0a29d
 use Rattle.fk_meaning_operation.specs.declared.operation.Operation.{Operation}
 use Rattle.fk_meaning_operation.specs.declared.operation.Operation.TheVariants.{Get, Set}
 use Rattle.fk_meaning_operation.specs.declared.operation.OwnValue.TheVariants.{Value}
@@ -15,7 +10,7 @@ use Rattle.fk_core.specs.declared.op.CoreOp.{CoreOp}
 use Rattle.fk_gen.specs.declared.placed.Levels.{Levels}
 use Rattle.fk_core_levels.specs.Count.{read, here, after, inside, opens, counts_from, nests_from}
 use Rattle.fk_core_levels.specs.Forks.{OpenPart, Parts, no_part, come_to, fork_of, leave, open_from}
-use Rattle.fk_core_levels.specs.Behind.{up_to, named, leads, IsBound, IsLeast}
+use Rattle.fk_core_levels.specs.Behind.{up_to, named, leads, IsBound}
 use Rattle.fk_core_levels.specs.Levels.{behind_in, AreLevels, told_from, raised, joined, IsSettling, StaysThere}
 use Rattle.fk_core_levels.proofs.Raised.{raised_long, raised_count, raised_nest, raised_fork, raised_above, raised_below}
 
