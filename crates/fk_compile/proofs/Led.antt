@@ -1,4 +1,4 @@
--- Programs that are in place and have no `fork` lead each processor from place to place.
+-- Programs that are in place lead each processor from place to place.
 use Rattle.std.proofs.Common.{◌≡◌, ℕ, suc, ◌+◌, Bool, true, false, true≢false, List, [], ◌∷◌, Option, Some, None, ap, ◌∙◌, sym, refl, subst}
 use Rattle.std.proofs.lemmas.Bool.{eqb-true}
 use Rattle.std.specs.Prelude.{◌==◌, is_some, if◌then◌else◌}

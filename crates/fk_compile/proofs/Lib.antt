@@ -11,6 +11,8 @@ mod Small
 mod Aims
 mod Blocks
 mod ListLaws
+-- a `fork` tells of small frames
+mod Forks
 -- levels of a list have room in its frames
 mod Rooms
 -- processors stay in the tree of groups

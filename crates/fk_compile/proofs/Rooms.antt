@@ -16,11 +16,14 @@ use Rattle.fk_meaning.specs.Behind.{tail}
 use Rattle.fk_core.specs.declared.op.CoreOp.{CoreOp}
 use Rattle.fk_core.specs.Numbers.{operation_of}
 use Rattle.fk_core.specs.Next.{is_jump, behind_jump, follows}
+use Rattle.fk_core.proofs.Leading.{op_stops}
 use Rattle.fk_core_levels.specs.Count.{read, counts}
 use Rattle.fk_core_levels.specs.Count as counting
 use Rattle.fk_core_levels.specs.Behind.{up_to, named, leads_by, leads, goes_on_by, goes_on}
 use Rattle.fk_core_levels.specs.Forks.{level_forks}
+use Rattle.fk_core_levels.proofs.Lasts.{levels_tell_forks}
 use Rattle.fk_core_levels.specs.Levels.{behind_in, AreLevels}
+use Rattle.fk_compile.proofs.Forks.{FramesAreSmall, forks_are_small}
 use Rattle.fk_core_liveness.specs.declared.set.Set.{Set}
 use Rattle.fk_core_liveness.specs.declared.places.FunctionKind.TheVariants.{Main}
 use Rattle.fk_core_liveness.specs.Frames.{is_main_place}
@@ -297,6 +300,19 @@ module _ (core : List CoreOp) (main firsts : ℕ) (kept : List Set) (begins : ma
       by_op None s e' = untrue e'
       by_op (Some op) s e' = by_jump op (is_jump op) s refl e'
 
+  -- the part that a loop shrinks is no part of a `fork`
+  shrink_last : (i : ℕ) (op : CoreOp) → OpAt core i op o.Shrink → level_forks core i ((levels_in saved i).count - 1) ≡ None
+  shrink_last i op at =
+      let here = slice_get_within core i op at.stands in
+      let f = held.rooms.fits i op o.Shrink at in
+      let some = shrinks i op at.stands at.is_read (level i) (held.rooms.counted i here) in
+      ap (λ n. level_forks core i (n - 1)) (count_is i here) ∙ held.rooms.forked i (level i - 1) here (omega (arith, some))
+      ∙ last_no_fork (is_main_place (places i).function) (places i).nests (level i - 1) f.may.0 f.may.1 (omega (arith, some))
+
+  small_frames : FramesAreSmall core
+  small_frames i op number words' stands is =
+      (held.suits.fits i op (o.Frame number words') (record { stands = stands; no_jump = op_stops core (λ n. n) i op (o.Frame number words') stands is op stands; is_read = is })).place
+
   kept_below : (i word : ℕ) → frames.keeps i word ≡ true → word < behind i
   kept_below i word k = ltb-true word (behind i) (least below live i word (held.keeps i word k))
 
@@ -453,25 +469,27 @@ module _ (core : List CoreOp) (main firsts : ℕ) (kept : List Set) (begins : ma
       parted_forks i sk.Fork n less = open_forks (is_main_place (places i).function) true None (places i).nests n less
 
       -- how a split leaves the level around its parts
-      left_there : (i : ℕ) (op : CoreOp) (by : SplitKind) (at : OpAt core i op (o.Split by)) → nestings.forks (suc i) (nestings.levels i) ≡ rooms.forks_in (place_behind (o.Split by) true (places i)) (level i)
-      left_there i op by at =
-          let goes = (fit i op (o.Split by) at).goes_on true in
-          let more = ap rooms.levels_in goes.place ∙ parted i op by at in
-          ap (λ n. level_forks core (suc i) n) (count_is i (lt i op (o.Split by) at))
-          ∙ held.rooms.forked (suc i) (level i) (within_on i op (o.Split by) at refl true) (omega (arith, more)) ∙ ap (λ p. rooms.forks_in p (level i)) goes.place
+      left_there : (i : ℕ) (op : CoreOp) (by : SplitKind) (at : OpAt core i op (o.Split by)) (j : ℕ) → j < length core → places j ≡ place_behind (o.Split by) true (places i)
+          → nestings.forks j (nestings.levels i) ≡ rooms.forks_in (place_behind (o.Split by) true (places i)) (level i)
+      left_there i op by at j there place =
+          let more = ap rooms.levels_in place ∙ parted i op by at in
+          ap (λ n. level_forks core j n) (count_is i (lt i op (o.Split by) at))
+          ∙ held.rooms.forked j (level i) there (omega (arith, more)) ∙ ap (λ p. rooms.forks_in p (level i)) place
 
       left_last : (i : ℕ) (op : CoreOp) (by : SplitKind) (at : OpAt core i op (o.Split by)) (numbered : Bool)
           → rooms.levels_in (place_behind (o.Split by) true (places i)) ≡ levels_of (is_main_place (places i).function) (OfPart numbered None ∷ (places i).nests)
           → forks_of (is_main_place (places i).function) (OfPart numbered None ∷ (places i).nests) (level i) ≡ left_by_fork numbered (places i).nests
       left_last i op by at numbered same = last_of (is_main_place (places i).function) numbered None (places i).nests (level i) (sym same ∙ parted i op by at)
 
-      left : (i : ℕ) (op : CoreOp) (by : SplitKind) (at : OpAt core i op (o.Split by)) → LeavesBy by (nestings.forks (suc i) (nestings.levels i))
-      left i op sk.IfAlone at = left_there i op sk.IfAlone at ∙ left_last i op sk.IfAlone at false refl
-      left i op sk.IfElse at = left_there i op sk.IfElse at ∙ left_last i op sk.IfElse at false refl
-      left i op sk.AndThen at = left_there i op sk.AndThen at ∙ left_last i op sk.AndThen at false refl
-      left i op sk.OrElse at = left_there i op sk.OrElse at ∙ left_last i op sk.OrElse at false refl
-      left i op sk.Loop at = left_there i op sk.Loop at ∙ left_last i op sk.Loop at false refl
-      left i op sk.Fork at = subst (λ (x : Option ℕ). LeavesBy sk.Fork x) (sym (left_there i op sk.Fork at ∙ left_last i op sk.Fork at true refl)) tt
+      left : (i : ℕ) (op : CoreOp) (by : SplitKind) (at : OpAt core i op (o.Split by)) (j : ℕ) → j < length core → places j ≡ place_behind (o.Split by) true (places i)
+          → LeavesBy by (nestings.forks j (nestings.levels i))
+      left i op sk.IfAlone at j there place = left_there i op sk.IfAlone at j there place ∙ left_last i op sk.IfAlone at false refl
+      left i op sk.IfElse at j there place = left_there i op sk.IfElse at j there place ∙ left_last i op sk.IfElse at false refl
+      left i op sk.AndThen at j there place = left_there i op sk.AndThen at j there place ∙ left_last i op sk.AndThen at false refl
+      left i op sk.OrElse at j there place = left_there i op sk.OrElse at j there place ∙ left_last i op sk.OrElse at false refl
+      left i op sk.Loop at j there place = left_there i op sk.Loop at j there place ∙ left_last i op sk.Loop at false refl
+      left i op sk.Fork at j there place =
+          subst (λ (x : Option ℕ). LeavesBy sk.Fork x) (sym (left_there i op sk.Fork at j there place ∙ left_last i op sk.Fork at true refl)) tt
 
       none_begun : (i n : ℕ) → places i ≡ entered Main → n < level i → ⊥
       none_begun i n e less = let none' = ap rooms.levels_in e in omega (arith, none', less)
@@ -494,7 +512,7 @@ module _ (core : List CoreOp) (main firsts : ℕ) (kept : List Set) (begins : ma
           record {
             opens = opens_there i (suc i) true (lt i op (o.Split by) at) (within_on i op (o.Split by) at refl true) (leads_is i op (o.Split by) at true) (ap rooms.levels_in goes.place ∙ parted i op by at)
                 (λ n less. ap (λ p. rooms.forks_in p n) goes.place ∙ parted_forks i by n less);
-            left = left i op by at;
+            left = left i op by at (suc i) (within_on i op (o.Split by) at refl true) goes.place;
           }
       goes_with i op o.Begin at step =
           let f = fit i op o.Begin at in
@@ -538,8 +556,7 @@ module _ (core : List CoreOp) (main firsts : ℕ) (kept : List Set) (begins : ma
           let some = shrinks i op at.stands at.is_read (level i) (held.rooms.counted i here) in (
             closes_there i op.target false here (within_on i op o.Shrink at refl false) (leads_is i op o.Shrink at false) (out.1 some ∙ ap suc (sym (ap rooms.levels_in (f.goes_on false).place)))
                 (back_forks i op.target (f.goes_on false).place f.may.0),
-            ap (λ n. level_forks core i (n - 1)) (count_is i here) ∙ held.rooms.forked i (level i - 1) here (omega (arith, some))
-                ∙ last_no_fork (is_main_place (places i).function) (places i).nests (level i - 1) f.may.0 f.may.1 (omega (arith, some)),
+            shrink_last i op at,
           )
 
       -- where a part begins there is room for its level
@@ -563,8 +580,11 @@ module _ (core : List CoreOp) (main firsts : ℕ) (kept : List Set) (begins : ma
       aside i op sk.IfElse at values few =
           let goes = (fit i op (o.Split sk.IfElse) at).goes_on false in
           let there = within_on i op (o.Split sk.IfElse) at refl false in (
-            opens_there i op.target false (lt i op (o.Split sk.IfElse) at) there (leads_is i op (o.Split sk.IfElse) at false) (ap rooms.levels_in goes.place ∙ parted i op sk.IfElse at)
-                (λ n less. ap (λ p. rooms.forks_in p n) goes.place ∙ parted_forks i sk.IfElse n less),
+            record {
+              opens = opens_there i op.target false (lt i op (o.Split sk.IfElse) at) there (leads_is i op (o.Split sk.IfElse) at false) (ap rooms.levels_in goes.place ∙ parted i op sk.IfElse at)
+                  (λ n less. ap (λ p. rooms.forks_in p n) goes.place ∙ parted_forks i sk.IfElse n less);
+              left = left i op sk.IfElse at op.target there goes.place;
+            },
             room_in i op sk.IfElse at false op.target values refl there few,
           )
       aside i op sk.IfAlone at values few = waits_there i op sk.IfAlone at refl
@@ -620,5 +640,7 @@ module _ (core : List CoreOp) (main firsts : ℕ) (kept : List Set) (begins : ma
         let here = lt i op o.Shrink at in (
           words_low i op o.Shrink at,
           is_some_of (levels_in saved i).count (level i) (count_is i here) (shrinks i op at.stands at.is_read (level i) (held.rooms.counted i here)),
+          levels_tell_forks core saved are i ∙ shrink_last i op at,
         )
+    level_words i op o.End at = (words_low i op o.End at, forks_are_small core saved are small_frames i)
     level_words i op operation at = words_low i op operation at

@@ -1,4 +1,4 @@
--- The lists of programs without a `fork` keep their processors in the tree of groups.
+-- The lists of programs keep their processors in the tree of groups.
 use Rattle.std.proofs.Common.{◌≡◌, ℕ, zero, suc, List, [], ◌∷◌, map, slice_get, Some, ap, ◌∙◌}
 use Rattle.fk_meaning_forms.specs.Program.{bodies_of, main_of}
 use Rattle.fk_layout.specs.Layout.{tables_by}

@@ -23,9 +23,8 @@ pub record HasListOf (tables : Tables) (program : ProgramTree) (core : List Core
   pub code : HasCodeOf tables program core entry
   pub begins : main ≡ entry (main_of tables program)
 
--- What is known of the list of a text without a `fork`: code with groups can be made of it, its
--- operations have blocks, and with the levels that are found for it its processors stay in the tree
--- of groups.
+-- What is known of the list of a text: code with groups can be made of it, its operations have
+-- blocks, and with the levels that are found for it its processors stay in the tree of groups.
 pub record IsGrouped (core : List CoreOp) (main firsts : ℕ) : Type 0 where
   pub can : CanHaveGroups core main firsts
   pub blocks : HasBlocks core

@@ -3,8 +3,7 @@
 //! `list` makes the flat list of a text. `fk_gen_list` makes the list's code. `image` puts that
 //! into an image, with the sites and the globals.
 //!
-//! `laws` proves that code can be made of the list of a text without a `fork`, and that the image is
-//! faithful.
+//! `laws` proves that code can be made of the list of a text, and that the image is faithful.
 #![tactic(auto)]
 
 mod compiler;

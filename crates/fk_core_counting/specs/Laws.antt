@@ -79,8 +79,8 @@ pub record IsRun (may_call : (in_group : Bool) → (function : ℕ) → Bool)
   pub frames : FramesIn false code
 
 -- The list counts the levels and the parts that the nests of each index tell, and tells which levels
--- a `fork` left. In `main` only the
--- group of a `start` splits, and a frame has a level where a loop shrinks.
+-- a `fork` left. In `main` only the group of a `start` splits, and a frame has a level where a loop
+-- shrinks.
 pub record TellsLevels (core : List CoreOp) (main : ℕ) (local : HasLocalFrames core main)
     : Type 0 where
   pub levels : (i : ℕ) → i < length core

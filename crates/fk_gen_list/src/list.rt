@@ -13,8 +13,7 @@ use fk_core_liveness::Set;
 use fk_gen::Levels;
 use std::alloc::{AllocError, Global};
 
-/// The code of a list of operations, without a `fork`. Each image with it has the law of blocks of
-/// groups.
+/// The code of a list of operations. Each image with it has the law of blocks of groups.
 ///
 /// `kept` has the private words that calls keep at each index, `saved` the levels of groups in
 /// their frames, `main` is the index where the program begins, `firsts` are the first values of
