@@ -508,7 +508,7 @@ module _ (block : Placed → List MarkedLine) (opening : List MarkedLine) (globa
       | inl more ↦ elim (cases_lt label (clear_label 0)) [
         | inl less ↦ bound_between label more less
         | inr from ↦ elim (cases_lt (clear_label most_privates) label) [
-          | inl past ↦ bound_spare label (record { low = low; no_copy = λ n le e. omega arith; no_start = λ e. omega arith; no_heap = λ e. omega arith; no_part = λ e. omega arith; no_parts = λ e. omega arith; no_clear = λ n le e. omega arith })
+          | inl past ↦ bound_spare label (record { low = low; no_copy = λ n le e. omega arith; no_start = λ e. omega arith; no_heap = λ e. omega arith; no_part = λ e. omega arith; no_parts = λ e. omega arith; no_fork = λ e. omega arith; no_clear = λ n le e. omega arith })
           | inr clear ↦
               let n = label - clear_label 0 in
               let same : label ≡ clear_label n = omega arith in

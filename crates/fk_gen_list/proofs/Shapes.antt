@@ -416,7 +416,7 @@ split_words split.OrElse levels d target site = omega arith
 split_words split.Loop levels d target site = omega arith
 split_words split.Fork levels d target site = by (levels.count == 0)
   where
-    by : (first : Bool) → 9 + length (if first then quiet (Sw 9 28 (at_value 60)) ∷ [] else []) ≤ 15
+    by : (first : Bool) → suc (suc (suc (suc (suc (suc (suc (suc (suc (length (if first then quiet (Sw 9 28 (at_value 60)) ∷ [] else [])))))))))) ≤ 15
     by true = omega arith
     by false = omega arith
 
