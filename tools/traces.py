@@ -25,7 +25,7 @@ NAMES = ("split", "shrink", "end", "resume", "meet", "agree")
 DATA, CONTROL, LOCAL, DEVICES = 0x10000000, 0x18000000, 0x20000000, 0x30000000
 SECONDS = 300
 
-# Examples, and texts with each kind of event.
+# Small texts, with groups and without.
 RUNS = [
     ("void main(void) { }", 1, 9999),
     ("sh int x; void main(void) { x = 1 + 2 + 3; }", 1, 9999),

@@ -1,11 +1,11 @@
 -- What is told of the last level is how that level was left.
-use Rattle.std.proofs.Common.{◌≡◌, ℕ, zero, suc, ◌+◌, ◌-◌, Bool, true, false, List, [], ◌∷◌, length, map, slice_get, Option, Some, None, ap, sym, ◌∙◌, refl, arith, eq-eqb}
-use Rattle.std.specs.Prelude.{◌==◌, if◌then◌else◌}
+use Rattle.std.proofs.Common.{◌≡◌, ℕ, zero, suc, ◌-◌, Bool, true, false, List, [], ◌∷◌, length, map, slice_get, Option, Some, ap, sym, ◌∙◌, refl, arith, eq-eqb}
+use Rattle.std.specs.Prelude.{if◌then◌else◌}
 use Rattle.fk_meaning_operation.specs.declared.operation.Operation.{Operation}
 use Rattle.fk_meaning_operation.specs.declared.operation.Operation.TheVariants.{Split, Resume, Frame, Begin, End}
 use Rattle.fk_core.specs.declared.op.CoreOp.{CoreOp}
 use Rattle.fk_gen.specs.declared.placed.Levels.{Levels}
-use Rattle.fk_gen.specs.Levels.{levels_in, told_levels}
+use Rattle.fk_gen.specs.Levels.{levels_in}
 use Rattle.fk_core_levels.specs.Count.{read, here, after, opens, counts_from}
 use Rattle.fk_core_levels.specs.Forks.{OpenPart, Parts, no_part, closed, come_to, fork_of, fork_at, fork_in, taken, leave, open_from, open_parts, level_forks}
 use Rattle.fk_core_levels.specs.Levels.{AreLevels}

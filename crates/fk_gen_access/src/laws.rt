@@ -11,7 +11,7 @@ pub fn access_blocks_do()
 {}
 
 /// The block of an access takes equally many cycles before its commit, and equally many after it,
-/// for each processor, also where it faults. It keeps `a0`, `a1` and all words of frames except
+/// for each processor, also where it faults. It keeps `a0` to `a3` and all words of frames except
 /// values.
 pub fn access_blocks_keep()
     ensures { AccessBlocksKeep }

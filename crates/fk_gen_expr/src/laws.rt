@@ -9,7 +9,8 @@ pub fn expressions_do()
 {}
 
 /// The block of an operation of expressions takes as many cycles as it has lines. The first is its
-/// commit. It keeps `a0`, `a1` and all words of frames except values and the variable that it sets.
+/// commit. It keeps `a0` to `a3`, and all words of frames except values and the variable that it
+/// sets.
 pub fn expressions_keep()
     ensures { ExpressionsKeep }
 {}

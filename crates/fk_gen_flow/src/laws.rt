@@ -16,8 +16,9 @@ pub fn flow_blocks_do()
 {}
 
 /// The block of a branch, a call or the end of a call takes a known number of cycles, and keeps the
-/// registers of its node. A branch keeps all words of frames, a call those below its own frame, and
-/// the end of a call those below the word that takes the result.
+/// registers of its node. Only the end of a call with a group frame sets `a2`, to where that frame
+/// began. A branch keeps all words of frames, a call those below its own frame, and the end of a
+/// call those below the word that takes the result.
 pub fn flow_blocks_keep()
     ensures { FlowBlocksKeep }
 {}

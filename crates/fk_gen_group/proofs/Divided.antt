@@ -18,7 +18,7 @@ use Rattle.fk_sim_block.specs.Lockstep.{ComesByWay, AllComeByWay, highest_value}
 use Rattle.fk_sim_block.specs.Parts.{IsToDivide, AllMove, AllRest, part_of, size_of_part, size_behind, moved}
 use Rattle.fk_gen_group.specs.Splits.{split_goes_on}
 use Rattle.fk_gen_group.proofs.Members.{Both}
-use Rattle.fk_gen_group.proofs.Shares.{EachOwner, each_owner, shares, nothing_each, IsAmong, all_are_among, few_pass}
+use Rattle.fk_gen_group.proofs.Shares.{EachOwner, shares, nothing_each, IsAmong, all_are_among, few_pass}
 use Rattle.fk_gen_group.proofs.PartSizes.{AreCounted, Within, word_at, waiting_rest, part_rest, part_size}
 use Rattle.fk_gen_group.proofs.Committed.{moved_word}
 

@@ -1,5 +1,5 @@
 -- A group divides by a `fork`.
-use Rattle.std.proofs.Common.{◌≡◌, ◌≢◌, ℕ, zero, suc, ◌+◌, ◌-◌, ◌*◌, ◌^◌, ◌<◌, ◌≤◌, List, [], ◌∷◌, ◌++◌, length, map, Bool, true, false, Option, Some, None, sym, ap, subst, ◌∙◌, arith, refl}
+use Rattle.std.proofs.Common.{◌≡◌, ◌≢◌, ℕ, zero, suc, ◌+◌, ◌-◌, ◌*◌, ◌^◌, ◌<◌, ◌≤◌, List, [], ◌∷◌, ◌++◌, length, map, true, false, Option, Some, None, sym, ap, subst, ◌∙◌, arith, refl}
 use Rattle.std.specs.Prelude.{◌==◌, All, if◌then◌else◌}
 use Rattle.std.proofs.lemmas.Bool.{ne_eqb}
 use Rattle.std.proofs.lemmas.List.Elements.{All-head}
@@ -13,21 +13,21 @@ use Rattle.fk_core.specs.declared.op.CoreOp.{CoreOp}
 use Rattle.fk_image.specs.declared.Image.{Image}
 use Rattle.fk_machine.specs.Hart.{Hart, Setting as MachineSetting}
 use Rattle.fk_sim_nodes.specs.Node.{Member, Words}
-use Rattle.fk_sim_nodes.specs.Alone.{Holds, RunsPrivately, later, in_cycles}
+use Rattle.fk_sim_nodes.specs.Alone.{Holds, in_cycles}
 use Rattle.fk_sim_nodes.specs.Together.{Together}
 use Rattle.fk_sim_block.specs.Owner.{Owner, core_source}
-use Rattle.fk_sim_block.specs.Stands.{Places, value_in, frame_end, frame_start, local_address, zero_register, end_register, number_register, rank_register, size_register, group_frame_register}
+use Rattle.fk_sim_block.specs.Stands.{Places, value_in, frame_end, frame_start, local_address, zero_register, end_register, rank_register, group_frame_register}
 use Rattle.fk_sim_block.specs.Block.{Enters}
 use Rattle.fk_sim_block.specs.Node.{Nestings, OwnsHeader, OwnsSpace, IsAtRest, KnowsSpace, HasLevelBy, HasFramesEnd, first_word, frames_word, control_address, node_register, frames_register, blocks_register}
 use Rattle.fk_sim_block.specs.Lockstep.{IsMember, AllEnter, ComesByWay, highest_value, is_due}
-use Rattle.fk_sim_block.specs.Parts.{IsToDivide, IsToFork, HasFrameWords, AllAreToDivide, part_of, parts_of, size_behind}
-use Rattle.fk_gen.specs.Registers.{ra, t0, t1, t2, t3, t4, t5, t6}
+use Rattle.fk_sim_block.specs.Parts.{IsToDivide, HasFrameWords, AllAreToDivide, part_of, parts_of, size_behind}
+use Rattle.fk_gen.specs.Registers.{ra, t3}
 use Rattle.fk_gen.specs.Lines.{at_value}
 use Rattle.fk_gen.specs.InPlace.{LinesAt}
 use Rattle.fk_gen.proofs.Values.{same_word, other_word, values_before, value_place}
 use Rattle.fk_gen.proofs.Walk.{lines_split, runs_join}
 use Rattle.fk_gen.proofs.Does.{holds_in_cycles}
-use Rattle.fk_gen.proofs.Standing.{InMemory, in_memory, with_list, nothing_written}
+use Rattle.fk_gen.proofs.Standing.{in_memory, nothing_written}
 use Rattle.fk_gen_group.specs.Splits.{fork_label, fork_room, fork_place, counting_lines, waiting_lines, fork_saving, into_one_part, heading_by, split_goes_on}
 use Rattle.fk_gen_group.specs.Laws.{IsInPlace, IsSplitInPlace, LeavesBy}
 use Rattle.fk_gen_group.proofs.Last.{value_word}

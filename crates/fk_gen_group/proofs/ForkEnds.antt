@@ -1,9 +1,9 @@
 -- The end of a part of a `fork`.
-use Rattle.std.proofs.Common.{◌≡◌, ℕ, zero, suc, ◌+◌, ◌-◌, ◌*◌, ◌^◌, ◌%◌, ◌/◌, ◌<◌, ◌≤◌, List, [], ◌∷◌, ◌++◌, length, map, Bool, true, false, Option, Some, None, sym, ap, subst, ◌∙◌, arith, refl, eq-eqb}
+use Rattle.std.proofs.Common.{◌≡◌, ℕ, zero, suc, ◌+◌, ◌-◌, ◌*◌, ◌<◌, List, [], ◌∷◌, ◌++◌, length, map, Bool, true, false, Some, None, sym, ap, subst, ◌∙◌, arith, refl, eq-eqb}
 use Rattle.std.specs.Prelude.{◌==◌, if◌then◌else◌}
 use Rattle.std.proofs.lemmas.Bool.{ne_eqb, eqb-true}
 use Rattle.std.proofs.lemmas.Nat.{and_mask}
-use Rattle.fk_num.specs.Word.{Memory, word, word_sum}
+use Rattle.fk_num.specs.Word.{Memory, word_sum}
 use Rattle.fk_num.specs.Op.{applied}
 use Rattle.fk_num.specs.declared.operator.Op.TheVariants as num
 use Rattle.fk_meaning_operation.specs.declared.operation.Operation.TheVariants.{End}
@@ -12,8 +12,7 @@ use Rattle.fk_meaning.specs.Group.{has_room}
 use Rattle.fk_core.specs.declared.op.CoreOp.{CoreOp}
 use Rattle.fk_core.specs.Next.{position}
 use Rattle.fk_image.specs.declared.Image.{Image}
-use Rattle.fk_isa.specs.declared.instruction.Instruction.{Instruction}
-use Rattle.fk_isa.specs.declared.instruction.Instruction.TheVariants.{Lui, Jal, Lw, Addi, Andi, Srli, Add}
+use Rattle.fk_isa.specs.declared.instruction.Instruction.TheVariants.{Lui, Lw, Addi, Andi, Srli, Add}
 use Rattle.fk_asm.specs.Block.{MarkedLine}
 use Rattle.fk_machine.specs.Hart.{Hart, Shared, Setting as MachineSetting}
 use Rattle.fk_machine.specs.Step.{perform}
@@ -26,21 +25,21 @@ use Rattle.fk_sim_nodes.proofs.Runs.{cycle_map}
 use Rattle.fk_sim_nodes.proofs.Members.{cycle_commits, together_map}
 use Rattle.fk_sim_nodes.proofs.OnePlace.{private_of_all}
 use Rattle.fk_sim_block.specs.Owner.{Owner, number_of, core_source}
-use Rattle.fk_sim_block.specs.Stands.{Places, StandsFor, FrameInMemory, HasWaiting, HaveGroupFrames, full_word, frame_start, frame_end, local_address, frame_register, end_register, number_register, rank_register, size_register, zero_register, group_frame_register}
+use Rattle.fk_sim_block.specs.Stands.{Places, StandsFor, FrameInMemory, HasWaiting, HaveGroupFrames, full_word, frame_start, local_address, frame_register, end_register, number_register, rank_register, size_register, group_frame_register}
 use Rattle.fk_sim_block.specs.Block.{Enters}
 use Rattle.fk_sim_block.specs.Node.{Nestings, OwnsHeader, HasOuter, HasLevelBy, HasForked, HasFramesEnd, first_word, saved_at, frames_word, control_address, node_register, frames_register, blocks_register}
 use Rattle.fk_sim_block.specs.Lockstep.{IsMember, AllEnter, AllComeByWay, LevelOpens, highest_value, is_due}
 use Rattle.fk_sim_block.specs.Parts.{IsInPart, AreInPart, AllMove, EndsPart, size_behind}
 use Rattle.fk_gen.specs.Registers.{t0}
-use Rattle.fk_gen.specs.Lines.{quiet, goes_to, at_private, at_value, label_of, high_part, low_part, add_by, add_number}
-use Rattle.fk_gen.specs.InPlace.{LinesAt, HasBlock}
+use Rattle.fk_gen.specs.Lines.{quiet, at_private, at_value, label_of, high_part, low_part, add_by}
+use Rattle.fk_gen.specs.InPlace.{LinesAt}
 use Rattle.fk_gen.proofs.Values.{value_place, number_of_parts, number_of_low_part, sum_of_low, sum_of_parts}
 use Rattle.fk_gen.proofs.Walk.{Quiets, Plain, LocalAt, CanWalk, Told, quiet_lines, walk, told_of, walked, lines_split, runs_join, can_run_goes}
 use Rattle.fk_gen.proofs.Jumps.{jumps, jal_private}
 use Rattle.fk_gen.proofs.Does.{quiet_length, holds_in_cycles}
-use Rattle.fk_gen.proofs.Standing.{InMemory, in_memory, stands_with, with_list, nothing_written}
+use Rattle.fk_gen.proofs.Standing.{in_memory, stands_with, with_list, nothing_written}
 use Rattle.fk_gen_group.specs.Splits.{end_part_block, end_part_by, end_part_takes, frames_end, header_frames, found_line, forked_front, away_line, out_of_fork, last_level}
-use Rattle.fk_gen_group.specs.Blocks.{end_block, end_by}
+use Rattle.fk_gen_group.specs.Blocks.{end_block}
 use Rattle.fk_gen_group.specs.Laws.{IsInPlace, levels_at, last_fork}
 use Rattle.fk_gen_group.proofs.Levels.{many_callers}
 use Rattle.fk_gen_group.proofs.Last.{value_word}

@@ -1,14 +1,14 @@
 -- The parts of a `fork`: how many have room, and where each of them lies.
-use Rattle.std.proofs.Common.{◌≡◌, ℕ, zero, suc, ◌+◌, ◌-◌, ◌*◌, ◌/◌, ◌^◌, ◌<◌, ◌≤◌, Bool, true, false, Option, Some, None, sym, ap, subst, ◌∙◌, arith, refl, inl, inr, ◌⊎◌}
+use Rattle.std.proofs.Common.{◌≡◌, ℕ, zero, suc, ◌+◌, ◌-◌, ◌*◌, ◌/◌, ◌^◌, ◌<◌, ◌≤◌, Bool, true, false, Option, Some, None, sym, ap, subst, ◌∙◌, arith, refl, inl, inr}
 use Rattle.std.specs.Prelude.{nat_lt, is_some, if◌then◌else◌}
 use Rattle.std.specs.Int.{from_bool}
-use Rattle.std.proofs.Math.Nat.{mul-le-mul_right, mul_left_comm, le-div_iff_mul-le, mul-div-le, add-mul-div_right}
-use Rattle.std.proofs.lemmas.Bool.{ne_eqb, lt-ltb, le-ltb, ltb-true, cases_lt}
+use Rattle.std.proofs.Math.Nat.{mul-le-mul_right, le-div_iff_mul-le, mul-div-le, add-mul-div_right}
+use Rattle.std.proofs.lemmas.Bool.{ne_eqb, ltb-true, cases_lt}
 use Rattle.fk_num.specs.Op.{quotient}
-use Rattle.fk_space.specs.Space.{Space, IsSpace, share, free, equal_part}
+use Rattle.fk_space.specs.Space.{Space, IsSpace, free, equal_part}
 use Rattle.fk_meaning_operation.specs.declared.operation.SplitKind.TheVariants.{Fork}
 use Rattle.fk_meaning.specs.Processor.{values, last, before}
-use Rattle.fk_meaning.specs.Group.{parts, part, has_parts}
+use Rattle.fk_meaning.specs.Group.{has_parts}
 use Rattle.fk_sim_block.specs.Owner.{Owner}
 use Rattle.fk_sim_block.specs.Parts.{part_of, parts_of}
 use Rattle.fk_gen_group.proofs.Fronts.{no_words, small_parts, enough, both_ways}

@@ -1,52 +1,25 @@
 -- How members go on after they have divided by a `fork`.
-use Rattle.std.proofs.Common.{◌≡◌, ◌≢◌, ℕ, zero, suc, ◌+◌, ◌-◌, ◌*◌, ◌/◌, ◌%◌, ◌^◌, ◌<◌, ◌≤◌, List, [], ◌∷◌, ◌++◌, length, map, Bool, true, false, Option, Some, None, sym, ap, subst, ◌∙◌, arith, refl, eq-eqb}
+use Rattle.std.proofs.Common.{◌≡◌, ◌≢◌, ℕ, zero, suc, ◌+◌, ◌*◌, ◌/◌, ◌%◌, ◌^◌, ◌<◌, ◌≤◌, List, [], ◌∷◌, ◌++◌, length, false, sym, ap, subst, ◌∙◌, arith, refl, eq-eqb}
 use Rattle.std.specs.Prelude.{◌==◌, if◌then◌else◌}
-use Rattle.std.proofs.lemmas.Bool.{ne_eqb, eqb-true}
-use Rattle.fk_num.specs.Word.{Memory, put, word_sum}
+use Rattle.std.proofs.lemmas.Bool.{ne_eqb}
+use Rattle.fk_num.specs.Word.{Memory, word_sum}
 use Rattle.fk_num.specs.Op.{applied}
 use Rattle.fk_num.specs.declared.operator.Op.TheVariants as num
-use Rattle.fk_space.specs.Space.{Space, IsSpace, equal_part}
-use Rattle.fk_meaning_operation.specs.declared.operation.SplitKind.TheVariants.{Fork}
-use Rattle.fk_meaning_operation.specs.declared.operation.Operation.TheVariants.{Split}
-use Rattle.fk_meaning.specs.Processor.{Setting, values, last, before}
-use Rattle.fk_meaning.specs.Group.{part_level, has_parts, has_room}
-use Rattle.fk_core.specs.declared.op.CoreOp.{CoreOp}
 use Rattle.fk_image.specs.declared.Image.{Image}
 use Rattle.fk_isa.specs.declared.instruction.Instruction.TheVariants.{Jal, Jalr, Addi, Add, Slli, Sw}
 use Rattle.fk_machine.specs.Hart.{Hart, Setting as MachineSetting}
-use Rattle.fk_machine.proofs.Performs.{writes}
-use Rattle.fk_sim_nodes.specs.Node.{Member, Words}
 use Rattle.fk_sim_nodes.specs.Alone.{Holds, RunsPrivately, later, in_cycles}
-use Rattle.fk_sim_nodes.specs.Together.{Together}
-use Rattle.fk_sim_block.specs.Owner.{Owner, core_source}
-use Rattle.fk_sim_block.specs.Stands.{Places, HasValues, value_in, frame_end, frame_start, local_address, zero_register, frame_register, end_register, number_register, rank_register, size_register, group_frame_register}
-use Rattle.fk_sim_block.specs.Block.{Enters}
-use Rattle.fk_sim_block.specs.Node.{Nestings, OwnsHeader, OwnsSpace, IsAtRest, KnowsSpace, HasLevelBy, HasForked, HasFramesEnd, first_word, frames_word, control_address, node_register, frames_register, blocks_register}
-use Rattle.fk_sim_block.specs.Lockstep.{IsMember, AllEnter, ComesByWay, LevelsStay, LevelOpens, highest_value, is_due}
-use Rattle.fk_sim_block.specs.Parts.{IsToDivide, IsToFork, HasFrameWords, AllAreToDivide, part_of, parts_of, size_behind}
+use Rattle.fk_sim_block.specs.Stands.{Places, local_address, zero_register, end_register, number_register, rank_register, size_register}
+use Rattle.fk_sim_block.specs.Node.{control_address, node_register, frames_register, blocks_register}
 use Rattle.fk_gen.specs.Registers.{ra, t0, t1, t2, t3, t4, t5, t6}
 use Rattle.fk_asm.specs.Block.{MarkedLine}
-use Rattle.fk_gen.specs.Lines.{quiet, goes_to, at_private, at_value, label_of}
+use Rattle.fk_gen.specs.Lines.{quiet, goes_to, at_value, label_of}
 use Rattle.fk_gen.specs.InPlace.{LinesAt, HasLabels}
-use Rattle.fk_gen.proofs.Values.{same_word, other_word, values_before, value_place}
 use Rattle.fk_gen.proofs.Walk.{Quiets, Plain, LocalAt, CanWalk, Told, walk, told_of, walked, lines_split, private, runs_join}
 use Rattle.fk_gen.proofs.Jumps.{jumps, goes_to_pc, jalr_goes, jal_private, bne_taken, bne_on}
-use Rattle.fk_gen.proofs.Does.{holds_in_cycles}
-use Rattle.fk_gen.proofs.Standing.{InMemory, in_memory, with_list, nothing_written}
-use Rattle.fk_gen_group.specs.Splits.{HasParts, fork_label, fork_room, fork_place, counting_lines, waiting_lines, fork_saving, into_one_part, no_room, heading_by, split_goes_on}
-use Rattle.fk_gen_group.specs.Laws.{IsInPlace, IsSplitInPlace}
+use Rattle.fk_gen_group.specs.Splits.{HasParts, fork_label, fork_room, fork_place, counting_lines, waiting_lines, fork_saving, into_one_part, no_room, heading_by}
 use Rattle.fk_gen_group.proofs.Last.{value_word}
-use Rattle.fk_gen_group.proofs.Members.{Both, each_so, all_due}
-use Rattle.fk_gen_group.proofs.Slots.{slot_of, is_slot}
-use Rattle.fk_gen_group.proofs.Counting.{IsToCount, Knows}
-use Rattle.fk_gen_group.proofs.Counted.{Comes, come_and_count}
-use Rattle.fk_gen_group.proofs.Parting.{HasEntered, HasKept, IsWritten, has_kept, with_level, is_written, enters_part, saved_word, starts_in}
-use Rattle.fk_gen_group.proofs.PartSizes.{AreCounted, Within, word_at}
-use Rattle.fk_gen_group.proofs.Committed.{waits, comes_with, none_enters, child_is}
-use Rattle.fk_gen_group.proofs.Divided.{Divided, all_divided}
-use Rattle.fk_gen_group.proofs.ForkSizes as sizes
-use Rattle.fk_gen_group.proofs.ForkSizes.{entry, counted_fork, number_of_part, few_parts}
-use Rattle.fk_gen_group.proofs.Forks.{Fronted, IsPlaced, fork_fronted, is_placed, fork_link}
+use Rattle.fk_gen_group.proofs.Parting.{with_level}
 
 -- ---- the lines behind the commit
 

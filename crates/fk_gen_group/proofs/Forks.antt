@@ -1,27 +1,25 @@
 -- The members of a group that a `fork` divides.
-use Rattle.std.proofs.Common.{◌≡◌, ◌≢◌, ℕ, zero, suc, ◌+◌, ◌-◌, ◌*◌, ◌/◌, ◌%◌, ◌^◌, ◌<◌, ◌≤◌, List, [], ◌∷◌, ◌++◌, length, map, Bool, true, false, Option, Some, None, sym, ap, subst, ◌∙◌, arith, refl, eq-eqb}
-use Rattle.std.specs.Prelude.{◌==◌, nat_lt, is_some, if◌then◌else◌}
+use Rattle.std.proofs.Common.{◌≡◌, ◌≢◌, ℕ, zero, suc, ◌+◌, ◌-◌, ◌*◌, ◌^◌, ◌<◌, ◌≤◌, List, [], ◌∷◌, ◌++◌, length, true, false, Option, Some, None, sym, ap, subst, ◌∙◌, arith, refl}
+use Rattle.std.specs.Prelude.{nat_lt, is_some}
 use Rattle.std.specs.Int.{from_bool}
 use Rattle.std.proofs.Math.Nat.{mul_left_comm}
-use Rattle.std.proofs.lemmas.Bool.{le-leb, lt-leb, ne_eqb}
-use Rattle.fk_num.specs.Word.{Memory, put, word, word_sum}
+use Rattle.std.proofs.lemmas.Bool.{le-leb, ne_eqb}
+use Rattle.fk_num.specs.Word.{word, word_sum}
 use Rattle.fk_num.specs.Op.{applied, quotient}
 use Rattle.fk_num.specs.declared.operator.Op.TheVariants as num
 use Rattle.fk_space.specs.Space.{Space, IsSpace, free, equal_part}
 use Rattle.fk_meaning_operation.specs.declared.operation.SplitKind.TheVariants.{Fork}
 use Rattle.fk_meaning_operation.specs.declared.operation.Operation.TheVariants.{Split}
 use Rattle.fk_meaning.specs.Processor.{Setting, values, last, before}
-use Rattle.fk_meaning.specs.Group.{part_level, has_parts, has_room, not_negative}
+use Rattle.fk_meaning.specs.Group.{has_parts}
 use Rattle.fk_core.specs.declared.op.CoreOp.{CoreOp}
 use Rattle.fk_image.specs.declared.Image.{Image}
-use Rattle.fk_isa.specs.declared.instruction.Instruction.TheVariants.{Jal, Jalr, Addi, Add, Sub, Mul, Slli, Srli, Sltiu, Sltu, Divu, Sw}
-use Rattle.fk_asm.specs.Block.{MarkedLine}
+use Rattle.fk_isa.specs.declared.instruction.Instruction.TheVariants.{Jal, Addi, Add, Sub, Mul, Slli, Srli, Sltiu, Sltu, Divu}
 use Rattle.fk_machine.specs.Hart.{Hart, Setting as MachineSetting}
-use Rattle.fk_machine.proofs.Performs.{writes}
-use Rattle.fk_sim_nodes.specs.Node.{Member, Words}
-use Rattle.fk_sim_nodes.specs.Alone.{Holds, RunsPrivately, later, in_cycles}
-use Rattle.fk_sim_block.specs.Owner.{Owner, core_source}
-use Rattle.fk_sim_block.specs.Stands.{Places, HasValues, value_in, frame_end, frame_start, local_address, zero_register, frame_register, end_register, number_register, rank_register, size_register}
+use Rattle.fk_sim_nodes.specs.Node.{Member}
+use Rattle.fk_sim_nodes.specs.Alone.{RunsPrivately, later, in_cycles}
+use Rattle.fk_sim_block.specs.Owner.{Owner}
+use Rattle.fk_sim_block.specs.Stands.{Places, value_in, frame_end, local_address, zero_register, frame_register, end_register}
 use Rattle.fk_sim_block.specs.Block.{Enters}
 use Rattle.fk_sim_block.specs.Node.{Nestings, KnowsSpace, first_word, control_address, node_register, frames_register, blocks_register}
 use Rattle.fk_sim_block.specs.Lockstep.{IsMember}
@@ -33,10 +31,10 @@ use Rattle.fk_gen.specs.InPlace.{LinesAt}
 use Rattle.fk_gen.proofs.Difference.{difference}
 use Rattle.fk_gen.proofs.Values.{value_place, values_before, length_before}
 use Rattle.fk_gen.proofs.ValueLines.{operand_is}
-use Rattle.fk_gen.proofs.Walk.{Quiets, Plain, LocalAt, walk, told_of, walked, lines_split, private, runs_join}
+use Rattle.fk_gen.proofs.Walk.{Quiets, Plain, LocalAt, walk, told_of, walked, lines_split, runs_join}
 use Rattle.fk_gen.proofs.Jumps.{jumps, goes_to_pc, jal_private, bgeu_taken}
 use Rattle.fk_gen.proofs.Does.{holds_in_cycles}
-use Rattle.fk_gen_group.specs.Splits.{HasParts, fork_label, fork_room, fork_place, fork_lines, counting_lines, waiting_lines, fork_saving, into_one_part, no_room, heading_by}
+use Rattle.fk_gen_group.specs.Splits.{HasParts, fork_label, fork_room, fork_place, counting_lines, waiting_lines, fork_saving, into_one_part, no_room, heading_by}
 use Rattle.fk_gen_group.specs.Laws.{IsInPlace}
 use Rattle.fk_gen_group.proofs.Last.{value_word}
 use Rattle.fk_gen_group.proofs.Sizes.{positive, positive_is}

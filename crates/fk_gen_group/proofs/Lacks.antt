@@ -1,5 +1,5 @@
 -- A split without room for its parts.
-use Rattle.std.proofs.Common.{◌≡◌, ℕ, suc, ◌+◌, ◌*◌, ◌/◌, ◌%◌, ◌^◌, ◌<◌, ◌≤◌, List, [], ◌∷◌, length, true, false, None, ap, subst, ◌∙◌, arith, refl, inr}
+use Rattle.std.proofs.Common.{◌≡◌, ℕ, suc, ◌+◌, ◌*◌, ◌/◌, ◌%◌, ◌^◌, ◌<◌, ◌≤◌, List, [], ◌∷◌, length, false, None, ap, subst, ◌∙◌, arith, refl, inr}
 use Rattle.std.proofs.lemmas.Bool.{lt-leb}
 use Rattle.fk_num.specs.Word.{Memory, word, word_sum}
 use Rattle.fk_num.specs.Op.{applied}

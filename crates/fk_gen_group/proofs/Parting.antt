@@ -23,7 +23,7 @@ use Rattle.fk_sim_block.specs.Owner.{Owner, number_of}
 use Rattle.fk_sim_block.specs.Stands.{Places, HasValues, FrameInMemory, local_address, frame_start, frame_end, group_word, value_of, zero_register, size_register, group_frame_register, HaveGroupFrames, number_register, rank_register}
 use Rattle.fk_sim_block.specs.Suits.{Flows, nothing}
 use Rattle.fk_sim_block.specs.Block.{Enters}
-use Rattle.fk_sim_block.specs.Node.{Nestings, HasLevel, HasLevelRoom, HasSaved, HasOuter, KnowsSpace, saved_at, first_word, past_levels, control_address, node_register, frames_register, blocks_register, HasLevelBy, frames_word}
+use Rattle.fk_sim_block.specs.Node.{Nestings, HasLevelRoom, HasSaved, HasOuter, KnowsSpace, saved_at, first_word, past_levels, control_address, node_register, frames_register, blocks_register, HasLevelBy, frames_word}
 use Rattle.fk_sim_block.specs.Lockstep.{IsMember, IsInGroup, LevelOpens}
 use Rattle.fk_sim_block.specs.Parts.{IsToDivide}
 use Rattle.fk_gen.proofs.Difference.{difference}

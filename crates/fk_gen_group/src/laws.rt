@@ -117,7 +117,7 @@ pub fn parts_end()
 {}
 
 /// The block of an operation that a processor does alone keeps its hart in its node, in as many
-/// cycles. It must keep `a0`, `a1` and the words of frames, except values and what it writes, and
+/// cycles. It must keep `a0` to `a3` and the words of frames, except values and what it writes, and
 /// the levels in the frame of its call must have room beside these. For a call the new frame must
 /// have no levels, and for an end the frame that is given up.
 pub fn lone_blocks_stay_in_node()

@@ -330,7 +330,7 @@ fn emit_forked(into: &mut Assembler, word: u32) -> Result<(), AllocError>
 // frame of so many words.
 fn emit_frames_end(into: &mut Assembler, count: u32, words: u32) -> Result<(), AllocError>
     requires few { words < 2 ^ 21 }
-    requires room { length into.old.lines + length (s.frames_end count words) < 2 ^ 30 }
+    requires room { length into.old.lines + length (s.frames_end count words) + 1 < 2 ^ 30 }
     requires free { AreFollowed into.old }
     ensures added { OnOk result
         (into.new ≡ with_block into.old (s.frames_end count words)) }
@@ -346,7 +346,7 @@ fn emit_frames_end(into: &mut Assembler, count: u32, words: u32) -> Result<(), A
 
 fn emit_frames_sum(into: &mut Assembler, words: u32) -> Result<(), AllocError>
     requires few { words < 2 ^ 21 }
-    requires room { length into.old.lines + length (s.frames_sum words) < 2 ^ 30 }
+    requires room { length into.old.lines + length (s.frames_sum words) + 1 < 2 ^ 30 }
     requires free { AreFollowed into.old }
     ensures added { OnOk result (into.new ≡ with_block into.old (s.frames_sum words)) }
     ensures begun { OnErr result (HasBegun (s.frames_sum words) into.old into.new) }

@@ -6,7 +6,6 @@ use Rattle.fk_meaning_operation.specs.declared.operation.OwnValue.TheVariants.{V
 use Rattle.fk_meaning_operation.specs.declared.operation.Multiprefix.{Multiprefix}
 use Rattle.fk_meaning_operation.specs.declared.operation.Operation.{Operation}
 use Rattle.fk_meaning_operation.specs.declared.operation.Operation.TheVariants.{Push, Get, Set, DropLast, CopyLast, Apply, Binary, Index, Branch, Enter, Leave, Combine, Halt, Begin, Agree, Farm, Seq, End, Resume, Meet, Frame, Block, Split, Shrink}
-use Rattle.fk_meaning_operation.specs.declared.operation.SplitKind.TheVariants.{IfAlone, IfElse, AndThen, OrElse, Loop}
 use Rattle.fk_meaning_operation.specs.declared.operation.Variable.TheVariants.{Private, OfFile}
 use Rattle.fk_meaning_operation.specs.declared.kinds.Class.{Class}
 use Rattle.fk_meaning_operation.specs.declared.kinds.Class.TheVariants.{Local, Request, Tree}
@@ -170,11 +169,7 @@ step_kind Resume step = refl
 step_kind (Meet closing) step = refl
 step_kind (Frame nesting words) step = refl
 step_kind Block step = refl
-step_kind (Split IfAlone) step = refl
-step_kind (Split IfElse) step = refl
-step_kind (Split AndThen) step = refl
-step_kind (Split OrElse) step = refl
-step_kind (Split Loop) step = refl
+step_kind (Split by) step = refl
 step_kind Shrink step = refl
 step_kind operation step = never step
 

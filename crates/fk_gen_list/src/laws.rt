@@ -17,7 +17,7 @@ pub fn lists_do_alone()
     ensures { ListsDoAlone }
 {}
 
-/// A list that suits frames has room for the levels around a processor, where no frame has one.
+/// A list that suits frames has room for the levels around a processor, where no group splits.
 pub fn levels_need_no_room()
     ensures { LevelsNeedNoRoom }
 {}
@@ -33,8 +33,8 @@ pub fn groups_begin()
     ensures { GroupsBegin }
 {}
 
-/// A plain list has the whole law of blocks in an image with its opening, its blocks and the code
-/// that they share. A plain list has no splits.
+/// A list with room for all its levels has the whole law of blocks in an image with its opening,
+/// its blocks and the code that they share.
 pub fn code_has_the_law()
     ensures { CodeHasTheLaw }
 {}

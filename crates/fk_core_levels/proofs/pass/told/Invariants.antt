@@ -1,5 +1,5 @@
 -- What is told so far, and what the rest of the list tells, is what the list tells.
-use Rattle.std.proofs.Common.{◌≡◌, ℕ, ◌≤◌, ◌++◌, false, drop}
+use Rattle.std.proofs.Common.{◌≡◌, ◌≤◌, ◌++◌, false, drop}
 use Rattle.fk_core_levels.specs.Forks.{no_part}
 use Rattle.fk_core_levels.specs.Open.{parts_of}
 use Rattle.fk_core_levels.specs.Levels.{told_from}

@@ -1,15 +1,21 @@
 -- The lines of the sum and the one that takes it are the code.
-use Rattle.std.proofs.Common.{◌≡◌, ◌+◌, ◌*◌, length, map, arith, refl, length-append}
-use Rattle.fk_gen.specs.Lines.{quiet, add_number}
+use Rattle.std.proofs.Common.{◌≡◌, ℕ, ◌+◌, ◌*◌, ◌≤◌, Bool, true, false, length, map, arith, refl, length-append}
+use Rattle.std.specs.Prelude.{◌==◌}
+use Rattle.fk_gen.specs.Lines.{quiet, high_part, add_by, add_number}
 use Rattle.fk_gen.proofs.Emitted.{on_err, on_ok, when_err, many_lines, followed, added_both, begun_front, begun_behind}
 use Rattle.fk_gen_group.specs.Splits.{found_line, frames_sum}
 use Rattle.fk_gen_group.proofs.splits.emit_frames_sum.Goals as goal
 
+sum_by : (short : Bool) (n register : ℕ) → 1 ≤ length (map quiet (add_by short n register))
+sum_by true n register = omega arith
+sum_by false n register = omega arith
+
 pub emit_sum-requires-clause-room : goal.emit_sum-requires-clause-room
 emit_sum-requires-clause-room c =
     let all : length (frames_sum c.args.words) ≡ length (map quiet (add_number (32 + 4 * c.args.words) 10)) + length found_line = length-append (map quiet (add_number (32 + 4 * c.args.words) 10)) found_line in
+    let more = sum_by (high_part (32 + 4 * c.args.words) == 0) (32 + 4 * c.args.words) 10 in
     let room = c.requires.room in
-    omega arith
+    omega (arith, all, more, room)
 
 pub emit_found-requires-clause-room : goal.emit_found-requires-clause-room
 emit_found-requires-clause-room c =

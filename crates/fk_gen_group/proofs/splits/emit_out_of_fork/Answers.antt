@@ -1,8 +1,8 @@
 -- What the frame has, where the frames end, and the way on are the block.
-use Rattle.std.proofs.Common.{◌++◌, ◌+◌, length, arith, refl, length-append}
+use Rattle.std.proofs.Common.{◌++◌, arith, refl, length-append}
 use Rattle.fk_asm.specs.Block.{GoesToMade}
 use Rattle.fk_gen.proofs.Emitted.{on_err, on_ok, when_err, many_lines, followed, bound_stays, added_both, begun_front, begun_behind}
-use Rattle.fk_gen_flow.proofs.Rows.{all_front, all_back}
+use Rattle.fk_gen_flow.proofs.Rows.{all_back}
 use Rattle.fk_gen_group.specs.Splits.{forked_front, frames_end, away_line}
 use Rattle.fk_gen_group.proofs.splits.emit_out_of_fork.Goals as goal
 

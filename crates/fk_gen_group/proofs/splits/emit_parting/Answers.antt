@@ -1,5 +1,5 @@
 -- The way to the shared code and what follows it are what is behind the lines of the part.
-use Rattle.std.proofs.Common.{All, OnOk, OnErr, ◌≡◌, sym, subst, arith, refl, length-append}
+use Rattle.std.proofs.Common.{All, ◌≡◌, sym, subst, arith, refl, length-append}
 use Rattle.fk_asm.specs.Block.{GoesToMade, HasBegun, with_block}
 use Rattle.fk_gen.proofs.Emitted.{on_err, on_ok, when_err, many_lines, followed, added_both, begun_front, begun_behind}
 use Rattle.fk_gen_flow.proofs.Rows.{all_front}

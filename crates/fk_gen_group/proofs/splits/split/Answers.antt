@@ -1,7 +1,7 @@
 -- The lines that find the part and the way to the shared code are the block.
-use Rattle.std.proofs.Common.{All, map, OnOk, OnErr, ◌≡◌, sym, subst, arith, refl, length-append}
+use Rattle.std.proofs.Common.{map, arith, refl, length-append}
 use Rattle.std.proofs.lemmas.List.{length-map}
-use Rattle.fk_asm.specs.Block.{GoesToMade, HasBegun, with_block}
+use Rattle.fk_asm.specs.Block.{GoesToMade}
 use Rattle.fk_gen.specs.Lines.{quiet}
 use Rattle.fk_gen.proofs.Emitted.{on_err, on_ok, when_err, many_lines, followed, bound_stays, added_both, begun_front, begun_behind}
 use Rattle.fk_gen_flow.proofs.Rows.{all_back}
