@@ -1,5 +1,5 @@
 -- The lists of programs keep their processors in the tree of groups.
-use Rattle.std.proofs.Common.{◌≡◌, ℕ, zero, suc, List, [], ◌∷◌, map, slice_get, Some, ap, ◌∙◌}
+use Rattle.std.proofs.Common.{◌≡◌, ℕ, zero, suc, List, [], ◌∷◌, map, slice_get, Some, ap, ◌∙◌, arith}
 use Rattle.fk_meaning_forms.specs.Program.{bodies_of, main_of}
 use Rattle.fk_layout.specs.Layout.{tables_by}
 use Rattle.fk_core_flat.proofs.FlatCode.{flat_lists_have_code}

@@ -15,7 +15,7 @@ use Rattle.fk_compile_text.proofs.Elements.{Contains-head, Contains-tail, Contai
 use Rattle.fk_compile_text.specs.declared.refusal.Refusal.{Refusal}
 use Rattle.fk_compile_text.specs.declared.refusal.Refusal.TheVariants.{BadByte, OpenComment, OpenString, WideNumber, Unexpected, EndOfText, Nesting, Rule, TooManySites, FrameTooLarge, GlobalsTooLarge, SourceTooLong, Memory}
 use Rattle.fk_compile_text.specs.Refusal.{IsRefusedText, IsOfFunction, TellsFrame, TellsFault}
-use Rattle.fk_compile_text.specs.Text.{IsChecked, HasLargeFrame}
+use Rattle.fk_compile_text.specs.Text.{IsChecked}
 
 -- the place that is told, if one is
 abbrev place_in : Option (Place × ℕ) → Place → Place

@@ -3,11 +3,11 @@ use Rattle.std.proofs.Common.{ℕ, ◌+◌, ◌≤◌, true, List, [], ◌∷◌
 use Rattle.std.specs.Prelude.{IfSome}
 use Rattle.std.specs.Option.{option_map}
 use Rattle.std.proofs.lemmas.List.Sums.{sum_by-cons}
-use Rattle.fk_syntax.specs.Program.{DeclaredTree, ItemTree}
+use Rattle.fk_syntax.specs.Program.{DeclaredTree}
 use Rattle.fk_meaning_forms.specs.Tables.{Tables}
 use Rattle.fk_layout_globals.specs.Constants.{told}
 use Rattle.fk_layout_globals.specs.Variables.{variables_of}
-use Rattle.fk_layout_globals.specs.Rows.{Row, words_of, row_at, rows_from, rows, total_of, total}
+use Rattle.fk_layout_globals.specs.Rows.{Row, words_of, row_at, rows_from, total_of, total}
 use Rattle.fk_layout_globals.specs.View.{row_of}
 use Rattle.fk_layout_globals.specs.declared.rows.GlobalRow.{GlobalRow}
 use Rattle.fk_compile_text.specs.Text.{HasGlobal, HasRows, IsRowOf}

@@ -14,7 +14,7 @@ use Rattle.fk_core_flat.specs.Items.{way_of}
 use Rattle.fk_core_flat.specs.Shape.{is_done, IsOpening, IsShaped}
 use Rattle.fk_core_counting.proofs.Folding.{Parts, past}
 use Rattle.fk_lockstep_structure.specs.Placed.{Who, OfGroup, OfBody, OfMain, inner, who_in, may_choose, Placed}
-use Rattle.fk_core_counting.proofs.Ways.{Stand, stand_at, stand_inner, straight_on, out_on, ways}
+use Rattle.fk_core_counting.proofs.Ways.{Stand, stand_at, stand_inner, straight_on, straight_worded, out_on, ways}
 use Rattle.fk_core_typing.specs.Values.{Place, with_frame, entered, place_behind, State, bare, behind, behind_call, MayBeIn, May, Grants}
 use Rattle.fk_core_typing.specs.Typed as t
 use Rattle.fk_core_typing.specs.Typed.{EndsIn, Typed}
@@ -230,13 +230,17 @@ module _ (firsts : ℕ) (place_of : ℕ → FunctionKind) (frame_of : ℕ → Op
       all_sized (perform site op rest) inside l s e m n who resuming part closing x p shape at room stand deep t h low parts = (
         one_may op s m (plain_of op (performs p.0)) t.0 h.0 room low.0 (low_stand who s.place n m stand deep) parts.0,
         by p.0 (λ a.
-            all_sized rest inside l (behind op true s) e m n who false part false x p.1 (goes_on (ends_part op) (no_end op a) shape.2) at.1 (moved op true s room)
-            (straight_on who op s.place n a stand) deep t.1 h.1 (low_behind op true s rest low.1) parts.1),
+            let same = kept op a in
+            all_sized rest inside l (behind op true s) e m (past (Some op) n) who false part false x p.1 (goes_on (ends_part op) (no_end op a) shape.2) at.1 (moved op true s room)
+            (straight_on who op s.place n a t.0.place stand) (omega (arith, same, deep)) t.1 h.1 (low_behind op true s rest low.1) parts.1),
       )
         where
           performs : (way_of op ≡ w.straight) ⊎ ((way_of op ≡ w.onto) × (is_done rest ≡ true)) → (way_of op ≡ w.straight) ⊎ (way_of op ≡ w.onto)
           performs (inl a) = inl a
           performs (inr a) = inr a.0
+
+          kept : (op' : Operation) → way_of op' ≡ w.straight → (past (Some op') n).levels ≡ n.levels
+          kept op' a = ap (λ (q : Parts). q.levels) (straight_worded op' n 0 a)
 
           no_end : (op' : Operation) → way_of op' ≡ w.straight → ends_part op' ≡ false
           no_end o.End a = absurd (cc)
