@@ -1,5 +1,5 @@
 -- Endings of the code as outcomes.
-use Rattle.std.specs.Prelude.{ℕ, List, Option, None}
+use Rattle.std.specs.Prelude.{ℕ, List, None}
 use Rattle.std.specs.Option.{option_map}
 use Rattle.fk_layout_globals.specs.Rows.{Row}
 use Rattle.fk_machine.specs.Cycle.{Machine}

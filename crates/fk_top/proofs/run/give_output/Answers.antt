@@ -1,4 +1,4 @@
-use Rattle.std.proofs.Common.{◌≡◌, ℕ, ◌-◌, List, ◌++◌, Option, Some, None, sym, ap, subst, ◌∙◌}
+use Rattle.std.proofs.Common.{◌-◌, sym, ap, subst, ◌∙◌}
 use Rattle.std.specs.Prelude.{option_map}
 use Rattle.std.specs.Io.KnownBytes.{append_known}
 use Rattle.fk_ports.specs.Known.{TakesPrefix}
@@ -9,7 +9,7 @@ use Rattle.fk_machine.specs.Run.{after, output_in}
 use Rattle.fk_machine.specs.View.{machine_of}
 use Rattle.fk_machine.proofs.Stopped.{cut_output}
 use Rattle.fk_top.specs.Ending.{run_text, variable_of}
-use Rattle.fk_top.specs.Outcome.{Prints, with_shown, words_in}
+use Rattle.fk_top.specs.Outcome.{Prints, words_in}
 use Rattle.fk_top.specs.Report.{show_line}
 use Rattle.fk_top.proofs.Runs.{all_left, part_shown}
 use Rattle.fk_top.proofs.run.give_output.Goals as goal

@@ -1,6 +1,6 @@
-use Rattle.std.proofs.Common.{◌≡◌, ℕ, Bool, List, [], ◌∷◌, ◌++◌, Option, codes, sym, ap, subst, ◌∙◌, refl, append_assoc, append-nil}
+use Rattle.std.proofs.Common.{ℕ, Bool, List, [], ◌∷◌, ◌++◌, Option, codes, sym, ap, subst, ◌∙◌, refl, append_assoc, append-nil}
 use Rattle.std.specs.Io.KnownBytes.{append_known}
-use Rattle.fk_ports.specs.Known.{IsGiven, TakesPrefix}
+use Rattle.fk_ports.specs.Known.{IsGiven}
 use Rattle.fk_ports.proofs.Given.{all_given, none_given, part_of_given, piece_given}
 use Rattle.fk_ports.proofs.Pieces.{on_err, err_then, ok_then, part_of_same}
 use Rattle.fk_machine.specs.View.{machine_of}
