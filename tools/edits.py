@@ -13,6 +13,7 @@ IMPL = re.compile(r"impl(?:<.*?>)? (?:(\w+)(?:<.*?>)? for )?(\w+)")
 CONSTANT = re.compile(r"(?:pub(?:\([^)]*\))? )?const (\w+):")
 DEFINITION = re.compile(r" *(?:private )?(?:(?:abbrev|unfoldable)(?: pub)?|pub (?:record|data)) (?!mutual)(\w+)")
 MUTUAL = re.compile(r" +pub (\w+) :")
+IMPORT = re.compile(r"\buse Rattle\.(\w+)\.specs\.[\w.]+?(?:\.\{([^}]*)\}| as (\w+))")
 CLAUSE = re.compile(r"requires|ensures|ghost")
 
 
@@ -124,23 +125,37 @@ def names_of(lines):
     return found
 
 
+def known_in(crate, lines):
+    """The definitions of the crate's specs that a file of it can name, by what it calls them."""
+    text = "\n".join(lines)
+    imports = [it for it in IMPORT.findall(text) if it[0] == crate]
+    named = [pair for _, names, _ in imports for pair in re.findall(r"(\w+)(?: as (\w+))?", names)]
+    qualified = [pair for pair in re.findall(r"(\w+)\.(\w+)", text) if pair[0] in {it[2] for it in imports}]
+    return {other or name: name for name, other in named} | {name: name for _, name in qualified}
+
+
 def definitions_of(crate):
-    """Each definition of the crate's specs, by its name, with the words of its text."""
+    """Each definition of the crate's specs, by its name, with those that its text names."""
     found = {}
     for path in files_of(crate, "specs", ".antt"):
         lines = lines_of(path)
-        for name, line in zip(names_of(lines), lines):
+        names = names_of(lines)
+        known = {name: name for name in names if name} | known_in(crate, lines)
+        for name, line in zip(names, lines):
             if name and not line.lstrip().startswith("--"):
-                found.setdefault(name, set()).update(words_of([line]))
+                found.setdefault(name, set()).update(known[word] for word in words_of([line]) if word in known)
     return found
 
 
 def contracts_of(crate):
-    """Each function of the crate, by its path, with the words of its signature and contract."""
+    """Each function of the crate, by its path, with the definitions that its contract names."""
     found = {}
     for path in files_of(crate, "src", ".rt"):
         lines = lines_of(path)
-        found.update({it.path: words_of(lines[it.begins : it.body]) for it in functions_in(crate, path)})
+        known = known_in(crate, lines)
+        for function in functions_in(crate, path):
+            words = words_of(lines[function.begins : function.body])
+            found[function.path] = {known[word] for word in words if word in known}
     return found
 
 
@@ -149,8 +164,8 @@ def laws_about(crate, name):
     definitions, contracts = definitions_of(crate), contracts_of(crate)
     near, met, found = {name}, {name}, []
     while near:
-        found += [law for law, words in contracts.items() if words & near and law not in found]
-        near = {it for it, words in definitions.items() if words & near} - met
+        found += [law for law, named in contracts.items() if named & near and law not in found]
+        near = {it for it, named in definitions.items() if named & near} - met
         met |= near
     return found
 
