@@ -38,6 +38,7 @@ KEPT = TOP / "tools" / "wrong_bodies"
 EARLIER = TOP / "tools" / "out" / "wrong_bodies"
 VERDICT = re.compile(r"fn (\S+?): (proved|not proved|no proof)(.*)")
 ERROR = re.compile(r"(?:\./)?(\S+?):\d+:\d+: error: (?:(`[^`]*`): )?(.*)")
+PROVED = "it is still proved"
 # How many functions the prover was asked of, and how many of them are proved; or its word on a whole crate.
 COUNT = re.compile(r"only=(\d+) proved=(\d+)|logic=(proved)?")
 # What the prover says of a text that it can't read.
@@ -202,7 +203,7 @@ def reason_of(lines, changed):
     if not counts:
         return f"the prover came to no verdict: {next((it for it in lines if 'error' in it), '')[:160]}"
     if counts[-1][3] or counts[-1][1] and counts[-1][1] == counts[-1][2]:
-        return "it is still proved"
+        return PROVED
     errors = [it.groups() for it in map(ERROR.match, lines) if it]
     unread = next((error for error in errors if is_unread(error, changed)), None)
     if unread:
@@ -214,16 +215,50 @@ def reason_of(lines, changed):
 
 def try_alone(room, crate, edit, functions):
     """Tries an edit by itself: asks of the function that it bears on most, and then, if that one is proved, of all."""
-    tried = Try("it is still proved", 0.0)
+    tried = Try(PROVED, 0.0)
     for asked in (functions[:1], functions) if len(functions) > 1 else (functions,):
-        if tried.reason == "it is still proved":
+        if tried.reason == PROVED:
             lines, changed, seconds = check_edited(room, crate, [edit], asked)
             tried = Try(reason_of(lines, changed), tried.seconds + seconds)
     return tried
 
 
+def link_or_copy(old, new):
+    """Links what a check kept of a module, which other checks replace and don't change, and copies all else."""
+    try:
+        os.link(old, new) if old.endswith(".oantt") else shutil.copy2(old, new)
+    except OSError:
+        shutil.copy2(old, new)
+
+
+def prove_before(room, crate, asked):
+    """Proves these functions as they stand, so that tries begin with what is kept of it.
+
+    Returns the folder of what is kept, whether they are proved, and the seconds of a processor that this took.
+    """
+    lines, _, seconds = check_edited(room, crate, [], sorted({it for functions in asked for it in functions[:1]}))
+    kept = room / "kept"
+    (room / "crates" / crate / "out").rename(kept)
+    return kept, reason_of(lines, set()) == PROVED, seconds
+
+
+def try_one_by_one(room, crate, edits, asked):
+    """Tries each edit by itself, if there are several each over the proof of all functions that they bear on most."""
+    kept, is_proved, seconds = prove_before(room, crate, asked.values()) if len(edits) > 2 else (None, True, 0.0)
+    if not is_proved:
+        return {key: Try("the function that it bears on isn't proved as it stands", 0.0) for key in edits}
+    tries, out = {}, room / "crates" / crate / "out"
+    for key, edit in edits.items():
+        if kept:
+            shutil.rmtree(out, ignore_errors=True)
+            shutil.copytree(kept, out, copy_function=link_or_copy)
+        tries[key] = try_alone(room, crate, edit, asked[key])
+        tries[key].seconds += seconds / len(edits)
+    return tries
+
+
 def try_edits(room, crate, edits, alone):
-    """Tries these edits of the crate in this copy, in rounds and then alone, and returns what each try came to."""
+    """Tries these edits of the crate in this copy, in rounds and then one by one, and returns what each try came to."""
     found = {key: asked_of(edit, crate) for key, edit in edits.items()}
     of_bodies = {key: functions for key, (functions, is_body) in found.items() if is_body and not alone}
     tries, before = {}, dict.fromkeys(edits, 0.0)
@@ -232,10 +267,9 @@ def try_edits(room, crate, edits, alone):
         before.update(dict.fromkeys(together, seconds))
         tries.update({key: Try(None, seconds) for key in refused})
     told = len(tries)
-    for key, edit in edits.items():
-        if key not in tries:
-            tries[key] = try_alone(room, crate, edit, found[key][0])
-            tries[key].seconds += before[key]
+    rest = {key: edit for key, edit in edits.items() if key not in tries}
+    for key, tried in try_one_by_one(room, crate, rest, {key: found[key][0] for key in rest}).items():
+        tries[key] = Try(tried.reason, tried.seconds + before[key])
     return tries, told
 
 
