@@ -9,7 +9,7 @@ from pathlib import Path
 
 TOP = Path(__file__).resolve().parent.parent
 FUNCTION = re.compile(r"( *)(?:pub(?:\([^)]*\))? )?(?:const )?fn (\w+)")
-IMPL = re.compile(r"impl(?:<.*?>)? (?:(\w+)(?:<.*?>)? for )?(\w+)")
+IMPL = re.compile(r"impl(?:<.*?>)? (?:(\w+)(?:<([\w:]+).*?>)? for )?(\w+)")
 CONSTANT = re.compile(r"(?:pub(?:\([^)]*\))? )?const (\w+):")
 DEFINITION = re.compile(r" *(?:private )?(?:(?:abbrev|unfoldable)(?: pub)?|pub (?:record|data)) (?!mutual)(\w+)")
 MUTUAL = re.compile(r" +pub (\w+) :")
@@ -78,6 +78,11 @@ def body_of(lines, begins, indent):
     return None
 
 
+def owner_of(impl):
+    """What the prover calls the functions of an impl by: its type, its trait, and the type that this is given."""
+    return impl[3] + (impl[1] or "") + "".join(word[0].upper() + word[1:] for word in (impl[2] or "").split("::") if word)
+
+
 def functions_in(crate, path):
     """The functions that have bodies in this file of src/."""
     module = path.relative_to(TOP / "crates" / crate / "src").with_suffix("").as_posix().replace("/", "::")
@@ -85,7 +90,7 @@ def functions_in(crate, path):
     for at, line in enumerate(lines):
         impl, begun = IMPL.match(line), FUNCTION.match(line)
         if impl or line == "}":
-            owner = f"{impl[2]}{impl[1] or ''}::" if impl else ""
+            owner = f"{owner_of(impl)}::" if impl else ""
         elif begun:
             body = body_of(lines, at, begun[1])
             name = f"{module}::{owner}{begun[2]}".removeprefix("lib::")

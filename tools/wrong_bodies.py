@@ -10,9 +10,9 @@ crate, over the libraries of the crates below it, and the prover is asked only o
 for a limit of the prover.
 
 What is to be proved of a function rests on its own body and on the contracts of what it calls. Edits of a crate that
-change different functions are therefore tried together, and further edits of a function in further rounds. What isn't
-told so is tried alone, as are edits of definitions: the prover is asked of the function whose contract cites the definition
-most directly, and then of all those whose contracts rest on it. With --alone all edits are tried alone.
+change the bodies of different functions are therefore tried together, and further edits of a function in further rounds.
+What isn't told so is tried alone, as are edits of definitions: the prover is asked of the function whose contract cites the
+definition most directly, and then of all those whose contracts rest on it. With --alone all edits are tried alone.
 
 What was refused stays so while its crate and the specs, signatures and contracts below it stay the same. So it is kept in
 tools/out, by the checksum of all these and of the edit, and not tried again, unless by --anew. The last line counts the
@@ -182,14 +182,6 @@ def is_refused(lines, crate, function):
     return any(proof.match(it) and not NAMES.search(it) for it in lines)
 
 
-def try_together(room, crate, together, edits):
-    """Tries these edits of a crate in one check, and returns those that are seen refused, and what each edit's part took."""
-    asked = sorted({it for functions in together.values() for it in functions})
-    lines, _, seconds = check_edited(room, crate, [edits[key] for key in together], asked)
-    refused = [key for key, functions in together.items() if any(is_refused(lines, crate, it) for it in functions)]
-    return refused, seconds / len(together)
-
-
 def is_unread(error, changed):
     """Whether the prover can't read a text of the crate, where an edit that turns a meaning reads well."""
     path, name, said = error
@@ -213,8 +205,35 @@ def reason_of(lines, changed):
     return None if seen else "it is refused only for a name that a proof misses"
 
 
-def try_alone(room, crate, edit, functions):
-    """Tries an edit by itself: asks of the function that it bears on most, and then, if that one is proved, of all."""
+def try_round(room, crate, together, edits):
+    """Tries these edits of bodies in one check, and returns what is told of which, and what each edit's part took."""
+    asked = sorted({it for functions in together.values() for it in functions})
+    lines, changed, seconds = check_edited(room, crate, [edits[key] for key in together], asked)
+    if len(together) == 1:
+        return dict.fromkeys(together, reason_of(lines, changed)), seconds
+    refused = [key for key, functions in together.items() if any(is_refused(lines, crate, it) for it in functions)]
+    return dict.fromkeys(refused), seconds / len(together)
+
+
+def try_bodies(room, crate, asked, edits, alone):
+    """Tries edits of bodies in rounds, and those that aren't told in further rounds, and at last alone.
+
+    The prover tells nothing of a function that calls one that isn't proved, so an edit may need another round.
+    """
+    spent, reasons, is_told = dict.fromkeys(asked, 0.0), {}, not alone
+    while len(reasons) < len(asked):
+        left = {key: functions for key, functions in asked.items() if key not in reasons}
+        rounds = rounds_of(left) if is_told else [{key: functions} for key, functions in left.items()]
+        for together in rounds:
+            told, seconds = try_round(room, crate, together, edits)
+            reasons.update(told)
+            spent.update({key: spent[key] + seconds for key in together})
+        is_told = is_told and len(reasons) > len(asked) - len(left)
+    return {key: Try(reason, spent[key]) for key, reason in reasons.items()}
+
+
+def try_definition(room, crate, edit, functions):
+    """Tries an edit of definitions: asks of the function that cites them most directly, and if that is proved, of all."""
     tried = Try(PROVED, 0.0)
     for asked in (functions[:1], functions) if len(functions) > 1 else (functions,):
         if tried.reason == PROVED:
@@ -242,35 +261,27 @@ def prove_before(room, crate, asked):
     return kept, reason_of(lines, set()) == PROVED, seconds
 
 
-def try_one_by_one(room, crate, edits, asked):
-    """Tries each edit by itself, if there are several each over the proof of all functions that they bear on most."""
-    kept, is_proved, seconds = prove_before(room, crate, asked.values()) if len(edits) > 2 else (None, True, 0.0)
+def try_definitions(room, crate, asked, edits):
+    """Tries edits of definitions one by one, if there are several each over the proof of what they bear on most."""
+    kept, is_proved, seconds = prove_before(room, crate, asked.values()) if len(asked) > 2 else (None, True, 0.0)
     if not is_proved:
-        return {key: Try("the function that it bears on isn't proved as it stands", 0.0) for key in edits}
+        return {key: Try("the function that it bears on isn't proved as it stands", 0.0) for key in asked}
     tries, out = {}, room / "crates" / crate / "out"
-    for key, edit in edits.items():
+    for key, functions in asked.items():
         if kept:
             shutil.rmtree(out, ignore_errors=True)
             shutil.copytree(kept, out, copy_function=link_or_copy)
-        tries[key] = try_alone(room, crate, edit, asked[key])
-        tries[key].seconds += seconds / len(edits)
+        tries[key] = try_definition(room, crate, edits[key], functions)
+        tries[key].seconds += seconds / len(asked)
     return tries
 
 
 def try_edits(room, crate, edits, alone):
-    """Tries these edits of the crate in this copy, in rounds and then one by one, and returns what each try came to."""
+    """Tries these edits of the crate in this copy, and returns what the tries of each came to."""
     found = {key: asked_of(edit, crate) for key, edit in edits.items()}
-    of_bodies = {key: functions for key, (functions, is_body) in found.items() if is_body and not alone}
-    tries, before = {}, dict.fromkeys(edits, 0.0)
-    for together in rounds_of(of_bodies):
-        refused, seconds = try_together(room, crate, together, edits)
-        before.update(dict.fromkeys(together, seconds))
-        tries.update({key: Try(None, seconds) for key in refused})
-    told = len(tries)
-    rest = {key: edit for key, edit in edits.items() if key not in tries}
-    for key, tried in try_one_by_one(room, crate, rest, {key: found[key][0] for key in rest}).items():
-        tries[key] = Try(tried.reason, tried.seconds + before[key])
-    return tries, told
+    of_bodies = {key: functions for key, (functions, is_body) in found.items() if is_body}
+    others = {key: functions for key, (functions, is_body) in found.items() if not is_body}
+    return try_bodies(room, crate, of_bodies, edits, alone) | try_definitions(room, crate, others, edits)
 
 
 def try_crate(crate, edits, alone, anew):
@@ -278,16 +289,15 @@ def try_crate(crate, edits, alone, anew):
     tries = {key: None if anew else earlier_try(key, edit) for key, edit in edits.items()}
     tries = {key: tried for key, tried in tries.items() if tried}
     left = {key: edit for key, edit in edits.items() if key not in tries}
-    of_earlier, told = len(tries), 0
+    of_earlier = len(tries)
     if left:
         with tempfile.TemporaryDirectory(prefix="wrong-bodies-") as name:
             copy_checkout(Path(name), crate)
-            now, told = try_edits(Path(name), crate, left, alone)
-        tries.update(now)
+            tries.update(try_edits(Path(name), crate, left, alone))
     for key, edit in left.items():
         keep(key, edit, tries[key])
     failed = sum(1 for it in tries.values() if it.reason)
-    counts = f"{of_earlier} by earlier runs, {told} refused together, {len(left) - told - failed} alone, {failed} not"
+    counts = f"{len(tries) - failed} passed, {failed} failed, {of_earlier} by earlier runs"
     print(f"{crate}: {counts}; {minutes(tries.values()):.1f} processor minutes", flush=True)
     return tries
 
