@@ -5,11 +5,13 @@ that `rt fmt` makes.
 """
 import re
 from dataclasses import dataclass
+from functools import cache
 from pathlib import Path
 
 TOP = Path(__file__).resolve().parent.parent
 FUNCTION = re.compile(r"( *)(?:pub(?:\([^)]*\))? )?(?:const )?fn (\w+)")
 IMPL = re.compile(r"impl(?:<.*?>)? (?:(\w+)(?:<([\w:]+).*?>)? for )?(\w+)")
+TYPE = re.compile(r"^(?:pub(?:\([^)]*\))? )?(?:struct|enum) (\w+)", re.MULTILINE)
 CONSTANT = re.compile(r"(?:pub(?:\([^)]*\))? )?const (\w+):")
 DEFINITION = re.compile(r" *(?:private )?(?:(?:abbrev|unfoldable)(?: pub)?|pub (?:record|data)) (?!mutual)(\w+)")
 MUTUAL = re.compile(r" +pub (\w+) :")
@@ -78,23 +80,37 @@ def body_of(lines, begins, indent):
     return None
 
 
-def owner_of(impl):
-    """What the prover calls the functions of an impl by: its type, its trait, and the type that this is given."""
-    return impl[3] + (impl[1] or "") + "".join(word[0].upper() + word[1:] for word in (impl[2] or "").split("::") if word)
+def module_of(crate, path):
+    return path.relative_to(TOP / "crates" / crate / "src").with_suffix("").as_posix().replace("/", "::")
+
+
+@cache
+def homes_of(crate):
+    """Each type of the crate that is declared once, with its module."""
+    declared = [(it[1], module_of(crate, path)) for path in files_of(crate, "src", ".rt") for it in TYPE.finditer(path.read_text())]
+    names = [name for name, _ in declared]
+    return {name: module for name, module in declared if names.count(name) == 1}
+
+
+def owner_of(crate, path, impl):
+    """What the prover calls an impl by: its type in that one's module; or its type, its trait, and the type that this is given."""
+    if not impl[1]:
+        return f"{homes_of(crate).get(impl[3], module_of(crate, path))}::{impl[3]}::"
+    given = "".join(word[0].upper() + word[1:] for word in (impl[2] or "").split("::") if word)
+    return f"{module_of(crate, path)}::{impl[3]}{impl[1]}{given}::"
 
 
 def functions_in(crate, path):
     """The functions that have bodies in this file of src/."""
-    module = path.relative_to(TOP / "crates" / crate / "src").with_suffix("").as_posix().replace("/", "::")
-    lines, owner, found = lines_of(path), "", []
+    lines, found = lines_of(path), []
+    module = owner = f"{module_of(crate, path)}::"
     for at, line in enumerate(lines):
         impl, begun = IMPL.match(line), FUNCTION.match(line)
         if impl or line == "}":
-            owner = f"{owner_of(impl)}::" if impl else ""
+            owner = owner_of(crate, path, impl) if impl else module
         elif begun:
             body = body_of(lines, at, begun[1])
-            name = f"{module}::{owner}{begun[2]}".removeprefix("lib::")
-            found += [Function(name, at, *body)] if body else []
+            found += [Function(f"{owner}{begun[2]}".removeprefix("lib::"), at, *body)] if body else []
     return found
 
 
