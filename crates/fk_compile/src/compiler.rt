@@ -32,7 +32,7 @@ pub struct Compiled<'a> {
 /// text included.
 ///
 /// # Errors
-/// Those of `built_text`, and of a text that is built `Memory` alone.
+/// Those of `built_text`, and of a text that keeps all rules and has a layout `Memory` alone.
 pub fn compile<'a>(alloc: Global, source: &'a [u8]) -> Result<Compiled<'a>, Refusal>
     ensures faithful { IfOk result (λ compiled. IsFaithful source.now compiled.image) }
     ensures rows { IfOk result (λ compiled. HasRows source.now (map row_of compiled.rows.items)) }
