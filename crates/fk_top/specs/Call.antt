@@ -160,9 +160,9 @@ pub record IsUnread (request : Request) : Type 0 where
   pub reads : Reads request.words command
   pub cause : IsFileUnread request command ⊎ IsInputUnread request command
 
--- The words are a command, and its bytes were read: the first ones of its file, if the store's files
--- are known, or its generated text. If the command takes an input, then the first bytes of the input
--- were read too, if these are known.
+-- The words are a command, and its bytes were read: the first ones of its file, if the store's
+-- files are known, or its generated text. If the command takes an input, then the first bytes of the
+-- input were read too, if these are known.
 pub record HasRead (request : Request) (outcome : Outcome) : Type 0 where
   pub command : Command
   pub reads : Reads request.words command
@@ -267,8 +267,8 @@ abbrev pub AreThere : Option Files → Origin → List ℕ → Type 0
 AreThere files (FirstOf file most) bytes = IsHeld files file bytes
 AreThere files (Generated statements) bytes = bytes ≡ generated statements
 
--- The words are a command. The store has its file, with these bytes, or they are its generated text.
--- What is left of the input is this text, and no count of faults rose in the call.
+-- The words are a command. The store has its file, with these bytes, or they are its generated
+-- text. What is left of the input is this text, and no count of faults rose in the call.
 pub record IsInOrder (call : Call) (command : Command) (bytes text : List ℕ) : Type 0 where
   pub reads : Reads call.request.words command
   pub there : AreThere call.request.files (origin_of command) bytes
@@ -292,8 +292,8 @@ IsImage bytes = (image : Image) × IsImageOf bytes image
 abbrev pub IsElf : List ℕ → Type 0
 IsElf bytes = (image : Image) × IsElfOf bytes image
 
--- What a command reads is in order: a text, which has the variable that is to be shown, an image, or
--- the ELF file of one.
+-- What a command reads is in order: a text, which has the variable that is to be shown, an image,
+-- or the ELF file of one.
 abbrev pub IsReadable : Command → List ℕ → Type 0
 IsReadable (Run file harts cycles show) source = IsText source × (shown : Option Row)
     × IsShown source show shown
@@ -381,8 +381,8 @@ IsOfUnaccepted status = (status ≡ Memory) ⊎ (status ≡ InputRefused)
 
 pub record IsAnswer (call : Call) (status : Status) : Type 0 where
   -- Each status has its cause. The status, the bytes that were put, and those that `out` and `err`
-  -- got are those of one image. It is faithful to the bytes that were fetched or generated, or these
-  -- are its bytes or its ELF file.
+  -- got are those of one image. It is faithful to the bytes that were fetched or generated, or
+  -- these are its bytes or its ELF file.
   pub answer : HasCause call status
   -- Words that are no command.
   pub usage : status ≡ Usage → IsNoCommand call.request.words

@@ -299,7 +299,7 @@ pub record PutsFromElf (file name : List ℕ) (outcome : Outcome) : Type 0 where
   pub is : outcome ≡ wrote name bytes
 
 -- The outcome of a command, for the bytes that it read and those of the input. A generated text is
--- run by 64 harts, without input numbers and for at most 2^32 - 1 cycles, and shows the variable `c`.
+-- run by 64 harts, without input numbers and for at most 2^32 - 1 cycles, and `c` is shown.
 abbrev pub ComesTo : Command → List ℕ → List ℕ → Outcome → Type 0
 ComesTo (Run file harts cycles show) source text outcome =
     RefusesSource source outcome ⊎ LacksGlobal source show outcome

@@ -1,4 +1,5 @@
--- What the commands read, and which of them run something, take an input, put a file or run an image.
+-- What the commands read, and which of them run something, take an input, put a file or run an
+-- image.
 use Rattle.std.specs.Prelude.{◌+◌, ℕ, List}
 use Rattle.fk_num.specs.Limits.{most_text_bytes}
 use Rattle.fk_top_words.specs.Arguments.{Text}

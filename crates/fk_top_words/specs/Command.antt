@@ -8,8 +8,8 @@ use Rattle.fk_top_words.specs.declared.command.CommandWords.TheVariants as words
 -- The commands: compile a file and run it, and then show a variable, if one is named; compile a
 -- file into an image; run an image; list an image's code; make the ELF file of an image, and the
 -- image of an ELF file; compile a file, run it, and tell which PRAM the run needed; compile a file
--- and trace its run; compile and run a generated text of this many statements. A run is by this many
--- harts, for at most this many cycles.
+-- and trace its run; compile and run a generated text of this many statements. A run is by this
+-- many harts, for at most this many cycles.
 pub data Command : Type 0 where
   Run : (file : Text) (harts cycles : ℕ) (show : Option Text) → Command
   Build : (file image : Text) → Command

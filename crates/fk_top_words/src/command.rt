@@ -35,7 +35,7 @@ pub enum CommandWords<'a> {
     /// `trace FILE --harts P --cycles N`: compiles a source and runs it, and tells what the harts
     /// commit in each cycle.
     Trace(&'a str, RunWords),
-    /// `selftest N`: compiles a text with N statements, which is generated, and runs it. N is from 1
-    /// to 500.
+    /// `selftest N`: compiles and runs a text with N statements, which is generated. N is from 1 to
+    /// 500.
     Selftest(u32),
 }
