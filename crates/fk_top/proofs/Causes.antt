@@ -5,7 +5,7 @@ use Rattle.std.proofs.lemmas.Bool.{ltb-true, ltb-false, lt-ltb}
 use Rattle.std.proofs.lemmas.List.{take_all, length-take}
 use Rattle.fk_syntax.specs.declared.facts.Facts.{Facts}
 use Rattle.fk_syntax.specs.Program.{ProgramTree}
-use Rattle.fk_ports.specs.Files.{Files, AppendsFile, FetchFaults, LacksFile, file}
+use Rattle.fk_ports.specs.Files.{Files, AppendsFile, LacksFile}
 use Rattle.fk_ports.specs.Known.{GivesAtMost, MovesFirst}
 use Rattle.fk_image.specs.declared.Image.{Image}
 use Rattle.fk_image.specs.Spelling.{IsImageOf}
@@ -316,7 +316,7 @@ accepted_audit image text p n globals outcome status count input same (inr r) =
 
 -- a run without numbers
 accepted_alone : (image : Image) (p n : ℕ) (writing : Writing) (outcome : Outcome) (status : Status) → outcome.status ≡ status → EndsOn image [] p n writing outcome → IsOfStand image [] p n status
-accepted_alone image p n writing outcome status same (inl r) = absurd (none_refused _ r.fault r.refused)
+accepted_alone image p n writing outcome status same (inl r) = absurd (none_refused image r.fault r.refused)
 accepted_alone image p n writing outcome status same (inr r) = (r.input, r.numbers, status-of outcome _ status r.is same)
 
 accepted_ends : (command : Command) (bytes text : List ℕ) (outcome : Outcome) (status : Status) → IsReadable command bytes → IsAccepted command bytes text → outcome.status ≡ status → ComesToFirst command bytes text outcome → IsOfAccepted command bytes text status

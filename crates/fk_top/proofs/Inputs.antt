@@ -66,6 +66,6 @@ is_input image text numbers limits e =
       words = subst (All (λ n. n < 2 ^ 32)) (sym (gives _ text numbers e).are) (are_words (words text));
     }
 
--- no text is refused that has no words
-pub none_refused : (limit : ℕ) (fault : InputFault) → input_of limit [] ≡ Err fault → ⊥
-none_refused limit fault e = let bad : Ok [] ≡ Err fault = e in cc
+-- the empty text is not refused
+pub none_refused : (image : Image) (fault : InputFault) → numbers_for image [] ≡ Err fault → ⊥
+none_refused image fault e = let bad : Ok [] ≡ Err fault = e in cc

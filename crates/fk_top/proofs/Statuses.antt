@@ -145,7 +145,7 @@ outcome_is_of words (Trace f p n) bytes text outcome reads (inr r) =
 outcome_is_of words (Selftest k) bytes text outcome reads (inl r) = is_of (Selftest k) outcome _ r.is tt
 outcome_is_of words (Selftest k) bytes text outcome reads (inr (inl r)) = is_of (Selftest k) outcome _ r.is tt
 outcome_is_of words (Selftest k) bytes text outcome reads (inr (inr r)) =
-    of_source bytes [] r.image (Selftest k) 64 4294967295 (Prints r.shown) outcome tt (λ i. none_refused _ i.fault i.refused) r.compiled
+    of_source bytes [] r.image (Selftest k) 64 4294967295 (Prints r.shown) outcome tt (λ i. none_refused r.image i.fault i.refused) r.compiled
     (record { some = omega arith; few = omega arith; bound = omega arith }) r.ends
 
 -- what alone runs an image of bytes is `exec`
