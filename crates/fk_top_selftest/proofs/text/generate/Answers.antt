@@ -1,0 +1,11 @@
+use Rattle.std.proofs.Common.{rules}
+use Rattle.fk_top_selftest.proofs.text.generate.Goals as goal
+
+pub loop-index-init : goal.loop-index-init
+loop-index-init c = ?
+
+pub loop-index-preserved : goal.loop-index-preserved
+loop-index-preserved c = ?
+
+pub returns : goal.returns
+returns c = ?
