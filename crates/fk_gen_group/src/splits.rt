@@ -1,9 +1,11 @@
 //! The blocks of splits, of the ends of parts, and of loops that shrink.
 
 ghost use Rattle.std.specs.Prelude.{◌≡◌, ◌+◌, ◌*◌, ◌^◌, ◌<◌, ◌≤◌, All, OnOk, OnErr, length, map};
+ghost use Rattle.std.specs.Prelude.{Some};
 ghost use Rattle.fk_asm.specs.Assembly.{AreFollowed, straight};
 ghost use Rattle.fk_asm.specs.Block.{GoesToMade, HasBegun, with_block};
 ghost use Rattle.fk_gen.specs.Lines.{quiet};
+ghost use Rattle.fk_image.specs.declared.event.Event.TheVariants as events;
 ghost use Rattle.fk_gen_group.specs.Splits as s;
 ghost use Rattle.fk_meaning_operation.specs.declared.operation.SplitKind.TheVariants as o;
 
@@ -13,6 +15,7 @@ use fk_gen::numbers::{at_private, high_part, low_part};
 use fk_gen::registers::{DEVICES, FRAME, RA, SIZE, T0, T1, T2, T3, ZERO};
 use fk_gen::{BlockLine, Levels, emit_lines, operand, result};
 use fk_gen_flow::registers::{BLOCKS, FRAMES, NODE};
+use fk_image::Event;
 use fk_isa::Instruction;
 use fk_meaning_operation::SplitKind;
 use std::alloc::AllocError;
@@ -162,7 +165,7 @@ fn emit_parting(
             BlockLine::goes_to(Instruction::Jal(ZERO, 0), FIRST_LABEL + target),
             BlockLine::quiet(Instruction::Lui(T1, high_part(site))),
             BlockLine::quiet(Instruction::Addi(T1, T1, low_part(site))),
-            BlockLine::commits(Instruction::Sw(DEVICES, T1, FAULT_DEVICE)),
+            BlockLine::commits_as(Event::Split, Instruction::Sw(DEVICES, T1, FAULT_DEVICE)),
         ],
     )
 }
@@ -182,9 +185,13 @@ pub(crate) fn end_part(into: &mut Assembler, levels: Levels, target: u32) -> Res
     emit_outward(into, true, word, target)
 }
 
-// A line that may do the operation.
+// A line that may do the operation, which ends a part.
 fn with_commit(commits: bool, instruction: Instruction) -> BlockLine
-    ensures { result ≡ record { line = straight instruction; commits = commits } }
+    ensures { result ≡ record {
+      line = straight instruction;
+      commits = commits;
+      event = Some events.End;
+    } }
 {
     BlockLine {
         line: Line {
@@ -192,6 +199,7 @@ fn with_commit(commits: bool, instruction: Instruction) -> BlockLine
             label: None,
         },
         commits,
+        event: Some(Event::End),
     }
 }
 
@@ -265,7 +273,7 @@ fn emit_staying(into: &mut Assembler, depth: u32) -> Result<(), AllocError>
             BlockLine::quiet(Instruction::Sltu(T3, ZERO, T3)),
             BlockLine::quiet(Instruction::AmoAddW(ZERO, NODE, T3, false, false)),
             BlockLine::quiet(Instruction::Lw(T0, NODE, 0)),
-            BlockLine::commits(Instruction::Sw(NODE, ZERO, 0)),
+            BlockLine::commits_as(Event::Shrink, Instruction::Sw(NODE, ZERO, 0)),
             BlockLine::quiet(Instruction::Bne(T3, ZERO, 24)),
         ],
     )
