@@ -9,7 +9,8 @@ use Rattle.fk_image.specs.Limits.{event_of_word}
 use Rattle.fk_asm.specs.Block.{MarkedLine}
 use Rattle.fk_gen.specs.Lines.{number_in}
 use Rattle.fk_gen.specs.declared.placed.Levels.{Levels}
-use Rattle.fk_gen_group.specs.Blocks.{block_by}
+use Rattle.fk_gen_group.specs.Blocks.{block_by, start_lines}
+use Rattle.fk_gen_group.specs.Splits.{one_part_lines, two_parts_lines}
 
 -- The event of an operation, if it is one.
 abbrev pub event_of : Operation → Option Event
@@ -22,13 +23,18 @@ event_of (Split by) = Some events.Split
 event_of Shrink = Some events.Shrink
 event_of operation = None
 
--- Each commit among these lines is this event, or none.
-abbrev pub AreMarked : Option Event → List MarkedLine → Type 0
-AreMarked event lines =
-    All (λ m. IfSome m.commit (λ word. event_of_word word ≡ number_in event)) lines
+-- The commit of a line, if it has one, is this event.
+abbrev pub IsMarked : Option Event → MarkedLine → Type 0
+IsMarked event m = IfSome m.commit (λ word. event_of_word word ≡ number_in event)
 
--- Each commit in the block of an operation is the event of that operation.
-abbrev pub BlocksAreMarked : Type 0
-BlocksAreMarked =
-    (operation : Operation) (levels : Levels) (depth target site : ℕ)
-    → AreMarked (event_of operation) (block_by (Some operation) levels depth target site)
+abbrev pub AreMarked : Option Event → List MarkedLine → Type 0
+AreMarked event lines = All (IsMarked event) lines
+
+-- Each commit in the block of an operation is the event of that operation. In the code that all
+-- beginnings of `start` share, and in that of splits, it is a split.
+pub record BlocksAreMarked : Type 0 where
+  pub blocks : (operation : Operation) (levels : Levels) (depth target site : ℕ)
+      → AreMarked (event_of operation) (block_by (Some operation) levels depth target site)
+  pub start : (globals : ℕ) → AreMarked (Some events.Split) (start_lines globals)
+  pub one_part : AreMarked (Some events.Split) one_part_lines
+  pub two_parts : AreMarked (Some events.Split) two_parts_lines
