@@ -25,6 +25,7 @@ use Rattle.fk_asm.specs.declared.code.Code.{Code}
 use Rattle.fk_sim_block.specs.Node.{Gathering}
 use Rattle.fk_sim_block.specs.Law.{GroupLaw}
 use Rattle.fk_gen_list.specs.Cycles.{cycles_of}
+use Rattle.fk_gen_list.specs.Events.{SharedCode, TellEvents}
 use Rattle.fk_gen_list.specs.Laws.{nestings_of}
 use Rattle.fk_gen_list.specs.Whole.{GivesGroupLaw}
 use Rattle.fk_compile.specs.ListLaws.{StepsFindValues}
@@ -40,6 +41,7 @@ use Rattle.fk_gen_list.specs.Generable.{IsGenerable, HasCode, places_in}
 use Rattle.fk_compile_text.proofs.Parts.{kept as passed}
 use Rattle.fk_compile.specs.Lists.{HasListOf, IsGrouped}
 use Rattle.fk_compile.specs.Faithful.{in_image, in_table, words_by}
+use Rattle.fk_compile.specs.Events.{TellsEventsOf}
 use Rattle.fk_compile.proofs.Rooms.{all_levels, shrinks_deep, parts_deep}
 use Rattle.fk_compile.proofs.Limits.{sites_fit, commits_fit, commits_rise}
 use Rattle.fk_compile.proofs.Theorem.{IsCompiled}
@@ -116,6 +118,7 @@ module _ (program : ProgramTree) (facts : Facts) (layout : Layout) (laid : IsLay
 
       given : StepsFindValues → (block : (index : ℕ) → ℕ) × (start : Gathering)
           × GroupLaw core image (places_in core block p.held.frames) (nestings_of saved (level_forks core) start) (cycles_of core (vec_len layout.words) kept saved) layout.firsts.items main
+          × ((shared : SharedCode) × TellEvents core shared block image.commits.items)
       given values =
           p.law image p.held.frames has p.held.suits p.held.keeps p.held.of_file (values core p.grouped.can.enough) (level_forks core) (levels_tell_forks core saved p.levels)
           (λ block start. all_levels core main (length layout.firsts.items) kept p.grouped.can.steady.within.begins p.grouped.can.steady.within.leads p.held p.least saved p.levels
@@ -155,4 +158,21 @@ module _ (program : ProgramTree) (facts : Facts) (layout : Layout) (laid : IsLay
         };
         sites_are = sites_are;
         globals_are = ap (λ v. v.items) p.has_globals ∙ laid.words;
+      }
+
+      pub tells_events : StepsFindValues → TellsEventsOf program facts image
+      tells_events values = let law = given values in record {
+        core = core;
+        main = main;
+        list = p.list;
+        places = places_in core law.0 p.held.frames;
+        nestings = nestings_of saved (level_forks core) law.1;
+        cycles = cycles_of core (vec_len layout.words) kept saved;
+        blocks =
+            subst
+            (λ (firsts : List ℕ).
+            GroupLaw core image (places_in core law.0 p.held.frames) (nestings_of saved (level_forks core) law.1) (cycles_of core (vec_len layout.words) kept saved) firsts main)
+            laid.firsts law.2;
+        shared = law.3.0;
+        events = law.3.1;
       }
