@@ -47,7 +47,7 @@ EXAMPLES = [
     ("sync_recursion", 8, ""),
     ("farm", 3, "12 7 30 16"),
     ("odd_even_sort", 6, "5 2 9 1 4 4"),
-    ("list_ranking", 5, "1 2 3 4 -1"),
+    ("list_ranking", 16, ""),
 ]
 MOST_CYCLES = 20_000
 
