@@ -196,6 +196,12 @@ fork_lines =
     fork_room ++ (fork_place ++ (counting_lines t3 ++ (waiting_lines ++ (fork_saving
     ++ into_one_part))))
 
+-- What all splits of a kind share.
+abbrev pub parts_lines : SplitKind → List MarkedLine
+parts_lines IfElse = two_parts_lines
+parts_lines Fork = fork_lines
+parts_lines by = one_part_lines
+
 -- The image has this code, at its labels.
 pub record HasParts (image : Image) (bound : ℕ → ℕ) : Type 0 where
   pub one : LinesAt image bound (bound one_part_label) one_part_lines

@@ -129,7 +129,7 @@ module _ (core : List CoreOp) (kept : List Set) (saved : List Levels) (main : â„
                 two = has_two_parts block_of opening globals ops a laid image built;
                 fork = has_fork block_of opening globals ops a laid image built;
               };
-            }, all_told core kept saved main firsts globals a laid image built),
+            }, all_told core kept saved main firsts globals a laid image built frames has.globals_of),
           ),
         )
 

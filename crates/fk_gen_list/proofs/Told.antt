@@ -1,9 +1,10 @@
 -- Each commit of a code tells the event of the operation to which it belongs.
 use Rattle.std.proofs.Common.{◌≡◌, ℕ, zero, suc, ◌+◌, ◌*◌, ◌<◌, ◌≤◌, List, [], ◌∷◌, ◌++◌, length, take, Bool, true, false, Option, Some, None, IfSome, All, inl, inr, sym, ap, subst, refl, ◌∙◌, arith, length-append}
-use Rattle.std.specs.Prelude.{flat_map, slice_get, ◌||◌}
+use Rattle.std.specs.Prelude.{flat_map, slice_get, slice_index_or}
 use Rattle.std.proofs.lemmas.List.Elements.{All-nil, All-cons, All-append, All-head, All-tail}
 use Rattle.fk_meaning_operation.specs.declared.operation.Operation.{Operation}
 use Rattle.fk_meaning_operation.specs.declared.operation.Operation.TheVariants as o
+use Rattle.fk_meaning_operation.specs.declared.operation.SplitKind.{SplitKind}
 use Rattle.fk_meaning_operation.specs.declared.operation.SplitKind.TheVariants as split
 use Rattle.fk_core.specs.declared.op.CoreOp.{CoreOp}
 use Rattle.fk_core.specs.Next.{is_jump}
@@ -15,20 +16,19 @@ use Rattle.fk_image.specs.Limits.{event_of_word}
 use Rattle.fk_asm.specs.Assembly.{Assembly}
 use Rattle.fk_asm.specs.Block.{MarkedLine, entry_at, entries_from}
 use Rattle.fk_core_liveness.specs.declared.set.Set.{Set}
-use Rattle.fk_sim_block.specs.Next.{OpAt}
+use Rattle.fk_sim_block.specs.Stands.{Places, Frames}
 use Rattle.fk_gen.specs.declared.placed.Levels.{Levels}
 use Rattle.fk_gen.specs.declared.placed.Placed.{Placed}
 use Rattle.fk_gen.specs.Events.{event_of, IsMarked, AreMarked}
 use Rattle.fk_gen.specs.Lines.{number_in}
 use Rattle.fk_gen_access.specs.Heap.{heap_label, heap_lines}
-use Rattle.fk_gen_flow.specs.Blocks.{is_some_flow}
 use Rattle.fk_gen_flow.specs.Opening.{opening_lines}
-use Rattle.fk_gen_access.specs.Blocks.{is_access}
-use Rattle.fk_gen_group.specs.Blocks.{start_label, start_lines, is_group_step}
-use Rattle.fk_gen_group.specs.Splits.{one_part_label, one_part_lines, two_parts_lines, fork_lines}
+use Rattle.fk_gen_group.specs.Blocks.{start_label, start_lines}
+use Rattle.fk_gen_group.specs.Splits.{parts_label, parts_lines, one_part_lines, two_parts_lines, fork_lines}
 use Rattle.fk_gen_group.proofs.Marked.{blocks_are_marked}
-use Rattle.fk_gen_list.specs.Events.{SharedCode, shared_by, TellsEvent, TellEvents}
-use Rattle.fk_gen_list.specs.Kinds.{kind_by, block_in, block_of}
+use Rattle.fk_gen_list.specs.Events.{TellsEvent, TellEvents}
+use Rattle.fk_gen_list.specs.Generable.{places_in}
+use Rattle.fk_gen_list.specs.Kinds.{kind_of, block_of}
 use Rattle.fk_gen_list.specs.Layout.{placed, placed_from, all_placed, place, copying_lines, clearing_lines, calls_front, start_front, heap_front, part_front, fork_front, front, all_lines, IsLaid}
 use Rattle.fk_gen_list.proofs.InImage.{IsAssembled, bound_in, word_or}
 use Rattle.fk_gen_list.proofs.Laid.{place-suc}
@@ -126,143 +126,110 @@ module _ (core : List CoreOp) (kept : List Set) (saved : List Levels) (main : �
   abbrev block : (index : ℕ) → ℕ
   block = place block_of (length (front opening globals)) ops
 
-  abbrev shared : SharedCode
-  shared = record {
-    begins = length (calls_front opening);
-    hires = length (start_front opening globals);
-    splits = length (heap_front opening globals);
-  }
-
-  abbrev Q : ℕ × ℕ → Type 0
-  Q = TellsEvent core shared block
-
-  operation_told : (i : ℕ) (op : CoreOp) (operation : Operation) → slice_get core i ≡ Some op → is_jump op ≡ false → operation_of op.kind op.number ≡ Some operation
-      → (m : List MarkedLine) → m ≡ block_of (placed core globals kept saved i op) → AreMarked (event_of operation) m → AreTold Q (block i) m
-  operation_told i op operation at no_jump read m same marked =
-      let next = place-suc block_of ops (length (front opening globals)) i (placed core globals kept saved i op) (placed_get core globals kept saved 0 i i op core at (omega arith)) in
-      let count = ap length same in
-      marked_told Q (event_of operation) (block i) m marked (λ word commit from below e. record {
-        word = word;
-        address = refl;
-        operation = operation;
-        code = inl (record {
-          index = i;
-          op = op;
-          stands = record { stands = at; no_jump = no_jump; is_read = read };
-          from = from;
-          below = omega (arith, below, next, count);
-        });
-        event = e;
-      })
-
-  block_told : (i : ℕ) (op : CoreOp) → slice_get core i ≡ Some op → (jump : Bool) (operation : Option Operation) → is_jump op ≡ jump → operation_of op.kind op.number ≡ operation
-      → AreTold Q (block i) (block_of (placed core globals kept saved i op))
-  block_told i op at true operation j read = rw j (tt, tt)
-  block_told i op at false None j read = rw (j, read) tt
-  block_told i op at false (Some operation) j read =
-      operation_told i op operation at j read (block_of (placed core globals kept saved i op)) refl
-      (operation_marked (placed core globals kept saved i op) operation j read (kind_by (is_jump op || is_some_flow (operation_of op.kind op.number)) (is_access (operation_of op.kind op.number)) (is_group_step (operation_of op.kind op.number))))
-
-  each_told : (i : ℕ) (p : Placed) → slice_get ops i ≡ Some p → AreTold Q (block i) (block_of p)
-  each_told i p at =
-      let there = placed_back core globals kept saved 0 i i core p (omega arith) at in
-      subst (λ x. AreTold Q (block i) (block_of x)) (sym there.is) (block_told i there.op there.at (is_jump there.op) (operation_of there.op.kind there.op.number) refl refl)
-
-  -- ---- the code that blocks share
-
-  counted_calls : length (calls_front opening) ≡ length (opening ++ copying_lines) + length clearing_lines
-  counted_calls = length-append (opening ++ copying_lines) clearing_lines
-
-  counted_start : length (start_front opening globals) ≡ length (calls_front opening) + length (start_lines globals)
-  counted_start = length-append (calls_front opening) (start_lines globals)
-
-  counted_heap : length (heap_front opening globals) ≡ length (start_front opening globals) + length (heap_lines globals)
-  counted_heap = length-append (start_front opening globals) (heap_lines globals)
-
-  counted_part : length (part_front opening globals) ≡ length (heap_front opening globals) + length one_part_lines
-  counted_part = length-append (heap_front opening globals) one_part_lines
-
-  counted_fork : length (fork_front opening globals) ≡ length (part_front opening globals) + length two_parts_lines
-  counted_fork = length-append (part_front opening globals) two_parts_lines
-
-  counted_front : length (front opening globals) ≡ length (fork_front opening globals) + length fork_lines
-  counted_front = length-append (fork_front opening globals) fork_lines
-
-  begins_told : AreTold Q (length (calls_front opening)) (start_lines globals)
-  begins_told =
-      let next = counted_start in
-      marked_told Q (Some events.Split) (length (calls_front opening)) (start_lines globals) (blocks_are_marked.start globals) (λ word commit from below e. record {
-        word = word;
-        address = refl;
-        operation = o.Begin;
-        code = inr (from, omega (arith, below, next));
-        event = e;
-      })
-
-  hires_told : AreTold Q (length (start_front opening globals)) (heap_lines globals)
-  hires_told =
-      let next = counted_heap in
-      marked_told Q None (length (start_front opening globals)) (heap_lines globals) (heap_marked globals) (λ word commit from below e. record {
-        word = word;
-        address = refl;
-        operation = o.Heap;
-        code = inr (from, omega (arith, below, next));
-        event = e;
-      })
-
-  -- lines among those that splits share
-  splits_told : (k : ℕ) (ms : List MarkedLine) → AreMarked (Some events.Split) ms → length (heap_front opening globals) ≤ k → k + length ms ≤ length (front opening globals) → AreTold Q k ms
-  splits_told k ms marked after before =
-      marked_told Q (Some events.Split) k ms marked (λ word commit from below e. record {
-        word = word;
-        address = refl;
-        operation = o.Split split.IfElse;
-        code = inr (omega (arith, after, from), omega (arith, below, before));
-        event = e;
-      })
-
-  calls_told : AreTold Q 0 (calls_front opening)
-  calls_told =
-      both_told Q 0 (opening ++ copying_lines) clearing_lines
-      (both_told Q 0 opening copying_lines (quiet_told Q 0 opening (opening_quiet (length firsts) firsts main)) (quiet_told Q (0 + length opening) copying_lines copying_quiet))
-      (quiet_told Q (0 + length (opening ++ copying_lines)) clearing_lines clearing_quiet)
-
-  front_told : AreTold Q 0 (front opening globals)
-  front_told =
-      let heap = counted_heap in
-      let part = counted_part in
-      let fork = counted_fork in
-      let all = counted_front in
-      both_told Q 0 (fork_front opening globals) fork_lines
-      (both_told Q 0 (part_front opening globals) two_parts_lines
-      (both_told Q 0 (heap_front opening globals) one_part_lines
-      (both_told Q 0 (start_front opening globals) (heap_lines globals)
-      (both_told Q 0 (calls_front opening) (start_lines globals) calls_told begins_told)
-      hires_told)
-      (splits_told (0 + length (heap_front opening globals)) one_part_lines blocks_are_marked.one_part (omega arith) (omega (arith, part, fork, all))))
-      (splits_told (0 + length (part_front opening globals)) two_parts_lines blocks_are_marked.two_parts (omega (arith, part)) (omega (arith, fork, all))))
-      (splits_told (0 + length (fork_front opening globals)) fork_lines blocks_are_marked.fork (omega (arith, part, fork)) (omega (arith, all)))
-
-  whole_told : All Q (entries_from 0 whole)
-  whole_told =
-      entries_told Q 0 whole
-      (both_told Q 0 (front opening globals) (flat_map block_of ops) front_told
-      (blocks_told Q block_of (length (front opening globals)) ops each_told))
-
-  module _ (a : Assembly) (laid : IsLaid block_of opening globals ops a) (image : Image) (built : IsAssembled image a.bound whole) where
+  module _ (a : Assembly) (laid : IsLaid block_of opening globals ops a) (image : Image) (built : IsAssembled image a.bound whole) (frames : Frames) where
     abbrev bound : (label : ℕ) → ℕ
     bound = bound_in a.bound (length whole)
 
-    same_shared : shared ≡ shared_by bound
-    same_shared =
-        let begins : length (calls_front opening) ≡ bound start_label = sym (ap (word_or (length whole)) laid.starts) in
-        let hires : length (start_front opening globals) ≡ bound heap_label = sym (ap (word_or (length whole)) laid.hires) in
-        let splits : length (heap_front opening globals) ≡ bound one_part_label = sym (ap (word_or (length whole)) laid.divides) in
-        ap (λ n. let s : SharedCode = record { begins = n; hires = length (start_front opening globals); splits = length (heap_front opening globals) } in s) begins
-        ∙ ap (λ n. let s : SharedCode = record { begins = bound start_label; hires = n; splits = length (heap_front opening globals) } in s) hires
-        ∙ ap (λ n. let s : SharedCode = record { begins = bound start_label; hires = bound heap_label; splits = n } in s) splits
+    abbrev there : Places
+    there = places_in core block frames
 
-    pub all_told : TellEvents core (shared_by bound) block image.commits.items
-    all_told =
-        subst (λ commits. TellEvents core (shared_by bound) block commits) (sym built.commits)
-        (subst (λ s. All (TellsEvent core s block) (entries_from 0 whole)) same_shared whole_told)
+    abbrev Q : ℕ × ℕ → Type 0
+    Q = TellsEvent core bound globals there
+
+    operation_told : (i : ℕ) (op : CoreOp) (operation : Operation) → slice_get core i ≡ Some op → is_jump op ≡ false → operation_of op.kind op.number ≡ Some operation
+        → AreMarked (event_of operation) (block_of (placed core globals kept saved i op)) → AreTold Q (block i) (block_of (placed core globals kept saved i op))
+    operation_told i op operation at no_jump read marked =
+        let next = place-suc block_of ops (length (front opening globals)) i (placed core globals kept saved i op) (placed_get core globals kept saved 0 i i op core at (omega arith)) in
+        marked_told Q (event_of operation) (block i) (block_of (placed core globals kept saved i op)) marked (λ word commit from below e. record {
+          word = word;
+          address = refl;
+          operation = operation;
+          code = inl (record {
+            index = i;
+            op = op;
+            stands = record { stands = at; no_jump = no_jump; is_read = read };
+            from = from;
+            below = omega (arith, below, next);
+          });
+          event = e;
+        })
+
+    block_told : (i : ℕ) (op : CoreOp) → slice_get core i ≡ Some op → (jump : Bool) (operation : Option Operation) → is_jump op ≡ jump → operation_of op.kind op.number ≡ operation
+        → AreTold Q (block i) (block_of (placed core globals kept saved i op))
+    block_told i op at true operation j read = rw j (tt, tt)
+    block_told i op at false None j read = rw (j, read) tt
+    block_told i op at false (Some operation) j read =
+        operation_told i op operation at j read
+        (operation_marked (placed core globals kept saved i op) operation j read (kind_of op))
+
+    each_told : (i : ℕ) (p : Placed) → slice_get ops i ≡ Some p → AreTold Q (block i) (block_of p)
+    each_told i p at =
+        let here = placed_back core globals kept saved 0 i i core p (omega arith) at in
+        subst (λ x. AreTold Q (block i) (block_of x)) (sym here.is) (block_told i here.op here.at (is_jump here.op) (operation_of here.op.kind here.op.number) refl refl)
+
+    -- ---- the code that blocks share
+
+    bound_at : (label k : ℕ) → slice_index_or a.bound label None ≡ Some k → bound label ≡ k
+    bound_at label k e = ap (word_or (length whole)) e
+
+    begins_told : AreTold Q (length (calls_front opening)) (start_lines globals)
+    begins_told =
+        let at = bound_at start_label (length (calls_front opening)) laid.starts in
+        marked_told Q (Some events.Split) (length (calls_front opening)) (start_lines globals) (blocks_are_marked.start globals) (λ word commit from below e. record {
+          word = word;
+          address = refl;
+          operation = o.Begin;
+          code = inr (omega (arith, at, from), omega (arith, at, below));
+          event = e;
+        })
+
+    hires_told : AreTold Q (length (start_front opening globals)) (heap_lines globals)
+    hires_told =
+        let at = bound_at heap_label (length (start_front opening globals)) laid.hires in
+        marked_told Q None (length (start_front opening globals)) (heap_lines globals) (heap_marked globals) (λ word commit from below e. record {
+          word = word;
+          address = refl;
+          operation = o.Heap;
+          code = inr (omega (arith, at, from), omega (arith, at, below));
+          event = e;
+        })
+
+    splits_told : (by : SplitKind) (k : ℕ) → slice_index_or a.bound (parts_label by) None ≡ Some k → AreMarked (Some events.Split) (parts_lines by) → AreTold Q k (parts_lines by)
+    splits_told by k e marked =
+        let at = bound_at (parts_label by) k e in
+        marked_told Q (Some events.Split) k (parts_lines by) marked (λ word commit from below told. record {
+          word = word;
+          address = refl;
+          operation = o.Split by;
+          code = inr (omega (arith, at, from), omega (arith, at, below));
+          event = told;
+        })
+
+    calls_told : AreTold Q 0 (calls_front opening)
+    calls_told =
+        both_told Q 0 (opening ++ copying_lines) clearing_lines
+        (both_told Q 0 opening copying_lines (quiet_told Q 0 opening (opening_quiet (length firsts) firsts main)) (quiet_told Q (0 + length opening) copying_lines copying_quiet))
+        (quiet_told Q (0 + length (opening ++ copying_lines)) clearing_lines clearing_quiet)
+
+    front_told : AreTold Q 0 (front opening globals)
+    front_told =
+        both_told Q 0 (fork_front opening globals) fork_lines
+        (both_told Q 0 (part_front opening globals) two_parts_lines
+        (both_told Q 0 (heap_front opening globals) one_part_lines
+        (both_told Q 0 (start_front opening globals) (heap_lines globals)
+        (both_told Q 0 (calls_front opening) (start_lines globals) calls_told begins_told)
+        hires_told)
+        (splits_told split.IfAlone (length (heap_front opening globals)) laid.divides blocks_are_marked.one_part))
+        (splits_told split.IfElse (length (part_front opening globals)) laid.halves blocks_are_marked.two_parts))
+        (splits_told split.Fork (length (fork_front opening globals)) laid.forks blocks_are_marked.fork)
+
+    whole_told : All Q (entries_from 0 whole)
+    whole_told =
+        entries_told Q 0 whole
+        (both_told Q 0 (front opening globals) (flat_map block_of ops) front_told
+        (blocks_told Q block_of (length (front opening globals)) ops each_told))
+
+    pub all_told : length image.globals.items ≡ globals → TellEvents core image bound there
+    all_told count =
+        subst (λ n. All (TellsEvent core bound n there) image.commits.items) (sym count)
+        (subst (λ commits. All Q commits) (sym built.commits) whole_told)

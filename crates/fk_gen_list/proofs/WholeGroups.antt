@@ -9,7 +9,6 @@ use Rattle.fk_gen_list.proofs.Done.{site_few, number_few}
 use Rattle.fk_sim_block.specs.Law.{GroupLaw}
 use Rattle.fk_gen_group.specs.Start.{gathering_of}
 use Rattle.fk_gen_list.specs.Cycles.{cycles_of}
-use Rattle.fk_gen_list.specs.Events.{shared_by}
 use Rattle.fk_gen.specs.Levels.{levels_in}
 use Rattle.fk_gen_list.specs.Laws.{AreInRange, nestings_of}
 use Rattle.fk_gen_list.specs.Whole.{CodeHasTheLaw, GivesGroupLaw}
@@ -37,4 +36,4 @@ gives_group_law core kept saved main firsts globals is few code stands image fra
     } in
     let law = code_has_the_law core kept saved image all.1.0 places firsts main forks suits keeps ranges looks
     (record { few = suits.few; within = omega arith; words = is.first_words }) tells (levels all.0 start) (generated_code_is_whole core kept saved image all.1.0 places firsts main all.1.1.0) in
-    (all.0, start, subst (λ n. GroupLaw core image places (nestings_of saved forks start) (cycles_of core n kept saved) firsts main) has.globals_of law, (shared_by all.1.0, all.1.1.1))
+    (all.0, start, subst (λ n. GroupLaw core image places (nestings_of saved forks start) (cycles_of core n kept saved) firsts main) has.globals_of law)

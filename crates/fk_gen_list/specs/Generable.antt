@@ -26,7 +26,7 @@ use Rattle.fk_gen_flow.specs.Opening.{HasOpening}
 use Rattle.fk_gen_group.specs.Blocks.{HasStart, HasLevelWords, HasSplitValues, is_group_step}
 use Rattle.fk_gen_group.specs.Splits.{HasParts}
 use Rattle.fk_gen_list.specs.Kinds.{block_of}
-use Rattle.fk_gen_list.specs.Events.{TellEvents, shared_by}
+use Rattle.fk_gen_list.specs.Events.{TellEvents}
 use Rattle.fk_gen.specs.Levels.{levels_in}
 use Rattle.fk_gen_list.specs.Layout.{placed}
 
@@ -153,4 +153,4 @@ GivesWholeCode core kept saved main firsts globals code =
     (image : Image) (frames : Frames) → HasCode code globals image → frames.of_file ≡ length firsts
     → (block : (index : ℕ) → ℕ) × ((bound : (label : ℕ) → ℕ)
     × (HasWholeCode core kept saved image bound (places_in core block frames) firsts main
-    × TellEvents core (shared_by bound) block image.commits.items))
+    × TellEvents core image bound (places_in core block frames)))

@@ -13,7 +13,6 @@ use Rattle.fk_sim_block.specs.Node.{Gathering, Nestings, HasLevelRoom}
 use Rattle.fk_sim_block.specs.Law.{GroupLaw}
 use Rattle.fk_gen_group.specs.Start.{gathering_of}
 use Rattle.fk_gen_list.specs.Cycles.{cycles_of}
-use Rattle.fk_gen_list.specs.Events.{SharedCode, TellEvents}
 use Rattle.fk_gen_list.specs.Laws.{AreInRange, HasLoneCode, HasGroupCode, HaveLevels}
 use Rattle.fk_gen_list.specs.Laws.{HaveStepLevels, StepsHaveValues, TellsForks, nestings_of}
 
@@ -57,7 +56,7 @@ CodeHasTheLaw =
 
 -- Each image with this code has the law of blocks of groups, in all frames that suit the list, keep
 -- no words except these and have room for its levels, where each step finds the value that it looks
--- at. Each commit of the image tells the event of its operation.
+-- at.
 abbrev pub GivesGroupLaw : (core : List CoreOp) (kept : List Set) (saved : List Levels) (main : ℕ)
     (firsts : List ℕ) (globals : ℕ) → Code → Type 0
 GivesGroupLaw core kept saved main firsts globals code =
@@ -69,4 +68,3 @@ GivesGroupLaw core kept saved main firsts globals code =
     → (block : (index : ℕ) → ℕ) × (start : Gathering)
     × GroupLaw core image (places_in core block frames) (nestings_of saved forks start)
     (cycles_of core globals kept saved) firsts main
-    × ((shared : SharedCode) × TellEvents core shared block image.commits.items)

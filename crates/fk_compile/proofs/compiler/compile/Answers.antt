@@ -7,9 +7,10 @@ use Rattle.fk_core.specs.declared.op.CoreOp.{CoreOp}
 use Rattle.fk_compile_text.proofs.Parts.{kept as passed, passes_on}
 use Rattle.fk_lower_laws.specs.Certain.{HasFrames}
 use Rattle.fk_compile.specs.Lists.{IsGrouped}
-use Rattle.fk_gen_list.specs.Generable.{IsGenerable, most_words}
+use Rattle.fk_gen_list.specs.Generable.{IsGenerable, GivesWholeCode, most_words}
+use Rattle.fk_gen_list.specs.Whole.{GivesGroupLaw}
 use Rattle.fk_compile.specs.Faithful.{in_table}
-use Rattle.fk_compile.proofs.Made.{IsPutTogether, are_levels, gives_the_law, is_generable, few_words, is_compiled, tells_events}
+use Rattle.fk_compile.proofs.Made.{IsPutTogether, are_levels, gives_still, is_generable, few_words, is_compiled, tells_events}
 use Rattle.fk_compile.proofs.Small.{few_operations}
 use Rattle.fk_compile.proofs.Theorem.{is_faithful}
 use Rattle.fk_compile.proofs.compiler.compile.Goals as goal
@@ -83,6 +84,7 @@ put_together c =
     let kept = c.in_ok-kept.kept in
     let saved = c.in_ok-saved.saved in
     let law = passed _ _ c.generate.result c.map_err-2.result code c.generate.ensures.group_law c.map_err-2.ensures.cases c.in_ok-code.was in
+    let whole = passed _ _ c.generate.result c.map_err-2.result code c.generate.ensures.whole c.map_err-2.ensures.cases c.in_ok-code.was in
     record {
       list = c.in_ok-list.ensures.list;
       grouped =
@@ -92,9 +94,13 @@ put_together c =
       levels =
           are_levels _ list.ops.items c.deref-2.result.now c.levels.result c.map_err.result saved c.deref-2.ensures.value c.levels.ensures c.map_err.ensures.cases c.in_ok-saved.was;
       law =
-          gives_the_law list.ops.items c.deref-3.result.now kept.items c.deref-4.result.now saved.items c.deref-5.result.now list.main layout.firsts.items c.deref-6.result.now
+          gives_still GivesGroupLaw list.ops.items c.deref-3.result.now kept.items c.deref-4.result.now saved.items c.deref-5.result.now list.main layout.firsts.items c.deref-6.result.now
           (vec_len layout.words) c.len-globals.result code c.deref-3.ensures.value c.deref-4.ensures.value c.deref-5.ensures.value c.deref-6.ensures.value
           c.len-globals.ensures law;
+      whole =
+          gives_still GivesWholeCode list.ops.items c.deref-3.result.now kept.items c.deref-4.result.now saved.items c.deref-5.result.now list.main layout.firsts.items c.deref-6.result.now
+          (vec_len layout.words) c.len-globals.result code c.deref-3.ensures.value c.deref-4.ensures.value c.deref-5.ensures.value c.deref-6.ensures.value
+          c.len-globals.ensures whole;
       table = passed _ _ c.generate.result c.map_err-2.result code c.generate.ensures.table c.map_err-2.ensures.cases c.in_ok-code.was;
       some = passed _ _ c.generate.result c.map_err-2.result code c.generate.ensures.some c.map_err-2.ensures.cases c.in_ok-code.was;
       few = passed _ _ c.generate.result c.map_err-2.result code c.generate.ensures.few c.map_err-2.ensures.cases c.in_ok-code.was;
@@ -135,7 +141,7 @@ returns-clause-events c =
       checked = c.in_ok-text.ensures.checked;
       told =
           tells_events (program_of text.tree) text.facts text.layout c.in_ok-text.ensures.laid c.in_ok-text.ensures.fits list.ops.items c.in_ok-kept.kept.items c.in_ok-saved.saved.items list.main
-          c.in_ok-code.code (image_of c) (put_together c) c.steps_find_values.ensures;
+          c.in_ok-code.code (image_of c) (put_together c);
     }
 
 pub kept_words-requires : goal.kept_words-requires
