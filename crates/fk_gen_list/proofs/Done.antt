@@ -29,6 +29,7 @@ use Rattle.fk_gen_list.proofs.Laid.{places, has_labels, has_opening, has_shared,
 use Rattle.fk_gen_list.proofs.AllPlaced.{placed_get, all_from}
 use Rattle.fk_gen_list.proofs.Clears.{few_clears}
 use Rattle.fk_gen_list.proofs.Whole.{assembled}
+use Rattle.fk_gen_list.proofs.Told.{all_told}
 use Rattle.fk_gen_list.proofs.Suited.{back_within, has_block_of, has_operands, jump_has}
 use Rattle.fk_gen_list.proofs.BlockLaws.{AreInRange, law_of_blocks}
 
@@ -105,7 +106,7 @@ module _ (core : List CoreOp) (kept : List Set) (saved : List Levels) (main : â„
           block,
           (
             bound,
-            record {
+            (record {
               opening = record {
                 labels = has_labels block_of opening globals ops a laid image built returns frames;
                 lines = subst (Î» n. LinesAt image bound 0 (opening_lines n firsts main)) (sym of_file) (has_opening block_of opening globals ops a laid image built);
@@ -128,14 +129,14 @@ module _ (core : List CoreOp) (kept : List Set) (saved : List Levels) (main : â„
                 two = has_two_parts block_of opening globals ops a laid image built;
                 fork = has_fork block_of opening globals ops a laid image built;
               };
-            },
+            }, all_told core kept saved main firsts globals a laid image built frames has.globals_of),
           ),
         )
 
     pub does_the_list : DoesTheList core kept main firsts globals code
     does_the_list image frames has suits keeps of_file no_parts =
         let all = stands image frames has of_file in
-        let whole = all.1.1 in
+        let whole = all.1.1.0 in
         let ranges : AreInRange core (length image.globals.items) = record {
           sites = site_few;
           numbers = number_few;
