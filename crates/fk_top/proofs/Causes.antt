@@ -214,11 +214,11 @@ read_text source text = let short = text.short in take_all 1048577 source (omega
 read_short : (source : List ℕ) → length (take 1048577 source) ≤ 1048576 → take 1048577 source ≡ source
 read_short source short = whole 1048577 source (omega arith)
 
-built : (source : List ℕ) (image : Image) → IsFaithful source image → IsText source
-built source image b = record { short = b.short; laid = record { tree = b.program; facts = b.facts; checked = b.checked; fits = b.fits } }
+text_built : (source : List ℕ) (image : Image) → IsFaithful source image → IsText source
+text_built source image b = record { short = b.short; laid = record { tree = b.program; facts = b.facts; checked = b.checked; fits = b.fits } }
 
 read_built : (source : List ℕ) (image : Image) → IsFaithful (take 1048577 source) image → IsText source
-read_built source image b = subst IsText (read_short source b.short) (built (take 1048577 source) image b)
+read_built source image b = subst IsText (read_short source b.short) (text_built (take 1048577 source) image b)
 
 read_image : (bytes : List ℕ) (image : Image) → IsImageOf bytes image → take 5434905 bytes ≡ bytes
 read_image bytes image is = let short = image_short bytes image is in take_all 5434905 bytes (omega arith)
@@ -376,7 +376,7 @@ unreadable_ends (Trace f p n) source text outcome status none same (inl r) = inr
 unreadable_ends (Trace f p n) source text outcome status none same (inr r) = absurd (none (read_built source r.image r.compiled))
 unreadable_ends (Selftest k) source text outcome status none same (inl r) = inr (status-of outcome _ status r.is same)
 unreadable_ends (Selftest k) source text outcome status none same (inr (inl r)) = inr (status-of outcome _ status r.is same)
-unreadable_ends (Selftest k) source text outcome status none same (inr (inr r)) = absurd (none (built source r.image r.compiled, r.shown, r.is_shown))
+unreadable_ends (Selftest k) source text outcome status none same (inr (inr r)) = absurd (none (text_built source r.image r.compiled, r.shown, r.is_shown))
 
 -- and where the input isn't
 unaccepted_ends : (command : Command) (bytes text : List ℕ) (outcome : Outcome) (status : Status) → IsReadable command bytes → ¬ IsAccepted command bytes text → outcome.status ≡ status → ComesToFirst command bytes text outcome → IsOfUnaccepted status
