@@ -8,18 +8,18 @@ use Rattle.fk_meaning_operation.specs.declared.operation.SplitKind.TheVariants.{
 use Rattle.fk_image.specs.declared.Image.{Image}
 use Rattle.fk_isa.specs.declared.instruction.Instruction.{Instruction}
 use Rattle.fk_isa.specs.declared.instruction.Instruction.TheVariants.{Lui, Jal, Jalr, Bne, Bgeu, Lw}
-use Rattle.fk_isa.specs.declared.instruction.Instruction.TheVariants.{Sw, Addi, Sltiu, Slli, Srli, Add}
-use Rattle.fk_isa.specs.declared.instruction.Instruction.TheVariants.{Sub, Sltu, Mul, Divu}
+use Rattle.fk_isa.specs.declared.instruction.Instruction.TheVariants.{Sw, Addi, Sltiu, Slli, Srli}
+use Rattle.fk_isa.specs.declared.instruction.Instruction.TheVariants.{Add, Sub, Sltu, Mul, Divu}
 use Rattle.fk_isa.specs.declared.instruction.Instruction.TheVariants.{Andi, AmoAddW}
 use Rattle.fk_asm.specs.Assembly.{straight}
 use Rattle.fk_asm.specs.Block.{MarkedLine}
 use Rattle.fk_sim_block.specs.Stands.{zero_register, frame_register, end_register, number_register}
 use Rattle.fk_sim_block.specs.Stands.{rank_register, size_register, device_register}
-use Rattle.fk_sim_block.specs.Node.{node_register, frames_register, blocks_register}
-use Rattle.fk_sim_block.specs.Node.{barrier_word, closing_word}
+use Rattle.fk_sim_block.specs.Node.{node_register, frames_register, blocks_register, barrier_word}
+use Rattle.fk_sim_block.specs.Node.{closing_word}
 use Rattle.fk_gen.specs.Registers.{ra, t0, t1, t2, t3, t4, t5, t6}
-use Rattle.fk_gen.specs.Lines.{quiet, commits, goes_to, commit_of, at_private, label_of}
-use Rattle.fk_gen.specs.Lines.{high_part, low_part, at_value, add_number}
+use Rattle.fk_gen.specs.Lines.{quiet, commits, goes_to, commit_of, at_private, label_of, high_part}
+use Rattle.fk_gen.specs.Lines.{low_part, at_value, add_number}
 use Rattle.fk_gen.specs.Operands.{operand, result}
 use Rattle.fk_gen.specs.InPlace.{LinesAt}
 use Rattle.fk_gen.specs.declared.placed.Levels.{Levels}
@@ -213,8 +213,8 @@ abbrev pub last_level : Levels → ℕ
 last_level levels = level_word levels (levels.count - 1)
 
 -- The group around a part of a `fork`: its size and `@`, its node, its blocks, `$`, and where its
--- frames end. That is in the header at the first level of a call. Else the frame of the group has so
--- many words.
+-- frames end. That is in the header at the first level of a call. Else the frame of the group has
+-- so many words.
 abbrev pub header_frames : List MarkedLine
 header_frames = quiet (Lw frames_register end_register (at_value 60)) ∷ []
 

@@ -110,8 +110,9 @@ pub fn parts_shrink()
     ensures { PartsShrink }
 {}
 
-/// Members of a part that come to its end commit in that cycle. Four cycles later each is where
-/// those wait who are around the part, with their size, control words and space.
+/// Members of a part that come to its end commit in that cycle. After it all take equally many
+/// cycles, four or at most ten if a `fork` made the part. Then each is where those wait who are
+/// around the part, with their `@`, `$`, size, control words and space.
 pub fn parts_end()
     ensures { PartsEnd }
 {}

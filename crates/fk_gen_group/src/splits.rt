@@ -1,6 +1,7 @@
 //! The blocks of splits, of the ends of parts, and of loops that shrink.
 
-ghost use Rattle.std.specs.Prelude.{◌≡◌, ◌+◌, ◌*◌, ◌^◌, ◌<◌, ◌≤◌, All, OnOk, OnErr, None, length, map};
+ghost use Rattle.std.specs.Prelude.{◌≡◌, ◌+◌, ◌*◌, ◌^◌, ◌<◌, ◌≤◌, All, OnOk, OnErr, None, length};
+ghost use Rattle.std.specs.Prelude.{map};
 ghost use Rattle.fk_asm.specs.Assembly.{AreFollowed, straight};
 ghost use Rattle.fk_asm.specs.Block.{GoesToMade, HasBegun, with_block};
 ghost use Rattle.fk_gen.specs.Lines.{quiet};

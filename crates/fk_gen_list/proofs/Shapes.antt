@@ -39,7 +39,7 @@ use Rattle.fk_gen_flow.specs.Flow as f
 use Rattle.fk_gen_group.specs.Blocks as group
 use Rattle.fk_gen_group.specs.Splits as splits
 use Rattle.fk_gen_flow.specs.Opening.{register_lines, first_line, first_lines, opening_lines}
-use Rattle.fk_gen_list.specs.Generable.{IsGenerable, HasOwnBlock, most_words, words_by}
+use Rattle.fk_gen_list.specs.Generable.{IsGenerable, most_words, words_by}
 use Rattle.fk_gen_list.specs.declared.kind.Kind.{Kind}
 use Rattle.fk_gen_list.specs.declared.kind.Kind.TheVariants.{Flow, Access, Group, Expression}
 use Rattle.fk_gen_list.specs.Kinds.{kind_of, kind_by, block_in, block_of}
