@@ -52,5 +52,6 @@ module _ (core : List CoreOp) (image : Image) (bound : ℕ → ℕ) (places : Pl
       (m : Member) (p : Owner)
       → OwnsHeader mine first → Enters core image places setting t i op operation p m.hart
       → IsMember places nestings setting runs first m p
-      → AreSoMany operation runs p n → ComesToMeet (meeting_of (event_by operation) (counted_by operation))
+      → AreSoMany operation runs p n
+      → ComesToMeet (meeting_of (event_by operation) (counted_by operation))
       (first + word_of operation) setting t runs n m p

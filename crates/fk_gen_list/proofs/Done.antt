@@ -106,30 +106,33 @@ module _ (core : List CoreOp) (kept : List Set) (saved : List Levels) (main : �
           block,
           (
             bound,
-            (record {
-              opening = record {
-                labels = has_labels block_of opening globals ops a laid image built returns frames;
-                lines = subst (λ n. LinesAt image bound 0 (opening_lines n firsts main)) (sym of_file) (has_opening block_of opening globals ops a laid image built);
-              };
-              returns = λ i. refl;
-              blocks = λ i op at.
-                  subst (λ n. HasBlock image bound there i (block_of (placed core n kept saved i op))) (sym has.globals_of)
-                  (has_block block_of opening globals ops a laid image built returns frames i (placed core globals kept saved i op) (placed_get core globals kept saved 0 i i op core at (omega arith)));
-              shared = has_shared block_of opening globals ops a laid image built;
-              start = record {
-                few = let e = has.globals_of in omega arith;
-                lines = subst (λ n. LinesAt image bound (bound start_label) (start_lines n)) (sym has.globals_of) (has_start block_of opening globals ops a laid image built);
-              };
-              heap = record {
-                few = let e = has.globals_of in omega arith;
-                lines = subst (λ n. LinesAt image bound (bound heap_label) (heap_lines n)) (sym has.globals_of) (has_heap block_of opening globals ops a laid image built);
-              };
-              parts = record {
-                one = has_one_part block_of opening globals ops a laid image built;
-                two = has_two_parts block_of opening globals ops a laid image built;
-                fork = has_fork block_of opening globals ops a laid image built;
-              };
-            }, all_told core kept saved main firsts globals a laid image built frames has.globals_of),
+            (
+              record {
+                opening = record {
+                  labels = has_labels block_of opening globals ops a laid image built returns frames;
+                  lines = subst (λ n. LinesAt image bound 0 (opening_lines n firsts main)) (sym of_file) (has_opening block_of opening globals ops a laid image built);
+                };
+                returns = λ i. refl;
+                blocks = λ i op at.
+                    subst (λ n. HasBlock image bound there i (block_of (placed core n kept saved i op))) (sym has.globals_of)
+                    (has_block block_of opening globals ops a laid image built returns frames i (placed core globals kept saved i op) (placed_get core globals kept saved 0 i i op core at (omega arith)));
+                shared = has_shared block_of opening globals ops a laid image built;
+                start = record {
+                  few = let e = has.globals_of in omega arith;
+                  lines = subst (λ n. LinesAt image bound (bound start_label) (start_lines n)) (sym has.globals_of) (has_start block_of opening globals ops a laid image built);
+                };
+                heap = record {
+                  few = let e = has.globals_of in omega arith;
+                  lines = subst (λ n. LinesAt image bound (bound heap_label) (heap_lines n)) (sym has.globals_of) (has_heap block_of opening globals ops a laid image built);
+                };
+                parts = record {
+                  one = has_one_part block_of opening globals ops a laid image built;
+                  two = has_two_parts block_of opening globals ops a laid image built;
+                  fork = has_fork block_of opening globals ops a laid image built;
+                };
+              },
+              all_told core kept saved main firsts globals a laid image built frames has.globals_of,
+            ),
           ),
         )
 

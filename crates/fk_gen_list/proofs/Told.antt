@@ -70,11 +70,10 @@ quiet_told Q k (m ∷ ms) quiets = (nothing m.commit (All-head IsQuiet m ms quie
 marked_told : (Q : ℕ × ℕ → Type 0) (event : Option Event) (k : ℕ) (ms : List MarkedLine) → AreMarked event ms
     → ((word commit : ℕ) → k ≤ word → word < k + length ms → event_of_word commit ≡ number_in event → Q (4 * word, commit)) → AreTold Q k ms
 marked_told Q event k [] marked each = tt
-marked_told Q event k (m ∷ ms) marked each =
-    (
-      one m.commit (All-head (IsMarked event) m ms marked),
-      marked_told Q event (k + 1) ms (All-tail (IsMarked event) m ms marked) (λ word commit from below e. each word commit (omega arith) (omega arith) e),
-    )
+marked_told Q event k (m ∷ ms) marked each = (
+  one m.commit (All-head (IsMarked event) m ms marked),
+  marked_told Q event (k + 1) ms (All-tail (IsMarked event) m ms marked) (λ word commit from below e. each word commit (omega arith) (omega arith) e),
+)
   where
     one : (commit : Option ℕ) → IfSome commit (λ c. event_of_word c ≡ number_in event) → IfSome commit (λ c. Q (4 * k, c))
     one None e = tt
