@@ -25,7 +25,6 @@ pub mod Spelled
 pub mod PlacedNotes
 pub mod PlacedStatements
 pub mod Returning
-pub mod NoForks
 pub mod PlacedPrograms
 pub mod Frames
 pub mod Spaces

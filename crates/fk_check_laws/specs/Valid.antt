@@ -1,6 +1,6 @@
 -- Programs that keep all rules and whose `fork` expressions give one value each are in place, and
 -- so their groups have one remaining program.
-use Rattle.std.specs.Prelude.{◌≡◌, ◌≢◌, ℕ, ◌≤◌, ◌^◌, Bool, true, not, ◌&&◌, List, Option, Some}
+use Rattle.std.specs.Prelude.{◌≡◌, ℕ, ◌≤◌, ◌^◌, Bool, true, not, ◌&&◌, List, Option, Some}
 use Rattle.std.specs.Prelude.{None, slice_get}
 use Rattle.fk_syntax.specs.declared.facts.Facts.{Facts}
 use Rattle.fk_syntax.specs.declared.program.Mode.{Mode}
@@ -13,9 +13,6 @@ use Rattle.fk_meaning.specs.Shaped.{ProgramShaped}
 use Rattle.fk_meaning_forms.specs.Program.{functions_of, signature_in, is_main, main_of}
 use Rattle.fk_meaning.specs.Program.{next_in, program_opening}
 use Rattle.fk_types_names.specs.Outline.{DeclarationTree, Variable, Header, declarations}
-use Rattle.fk_regions.specs.declared.around.Holder.{Holder}
-use Rattle.fk_regions.specs.declared.token.Word.TheVariants.{Fork}
-use Rattle.fk_regions.specs.Tokens.{TokenIn, tokens}
 use Rattle.fk_check.specs.Known.{AreAllFacts}
 use Rattle.fk_layout.specs.Layout.{tables_by}
 use Rattle.fk_meaning_forms.specs.Tables.{Tables, frame_at}
@@ -41,18 +38,6 @@ callable in_group (Some (Header function)) =
 
 abbrev pub may_call : ProgramTree → (in_group : Bool) → (binding : ℕ) → Bool
 may_call program in_group binding = callable in_group (slice_get (declarations program) binding)
-
--- no token of a program is a `fork`, and so nothing is computed for one
-abbrev pub HasNoFork : ProgramTree → Type 0
-HasNoFork program = (i : ℕ) (token : TokenIn (List Holder))
-    → slice_get (tokens program) i ≡ Some token → token.word ≢ Fork
-
-abbrev pub ForkFreeProgramsAreValued : Type 0
-ForkFreeProgramsAreValued =
-    (program : ProgramTree) (facts : Facts) → HasNoFork program
-    → let tables = tables_by program facts in
-    let fs = functions_of program.items in
-    ForksAreValued tables (signature_in tables fs) fs
 
 -- a program of at most 2^20 tokens that keeps all rules and whose `fork` expressions give one value
 -- each, with its facts

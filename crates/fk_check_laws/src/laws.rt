@@ -1,8 +1,7 @@
 //! Laws of programs that keep all rules.
 
 ghost use Rattle.fk_check_laws.specs.Laws.{ConditionsOfLoopsBegin, CorrectProgramsFit};
-ghost use Rattle.fk_check_laws.specs.Valid.{CorrectProgramsStandInPlace};
-ghost use Rattle.fk_check_laws.specs.Valid.{ForkFreeProgramsAreValued, ValidProgramsAreInPlace};
+ghost use Rattle.fk_check_laws.specs.Valid.{CorrectProgramsStandInPlace, ValidProgramsAreInPlace};
 ghost use Rattle.fk_check_laws.specs.Valid.{ValidProgramsHaveOneProgram, ValidProgramsHaveOneSpace};
 
 /// A program that keeps the forty rules calls only functions that have a body, each with its
@@ -23,11 +22,6 @@ pub fn conditions_begin()
 /// split, and no name denotes a function that may not be called there.
 pub fn correct_programs_stand_in_place()
     ensures { CorrectProgramsStandInPlace }
-{}
-
-/// If no token of a program is a `fork`, nothing is required of the expressions of a `fork`.
-pub fn fork_free_programs_are_valued()
-    ensures { ForkFreeProgramsAreValued }
 {}
 
 /// A program that keeps the forty rules is in place, if the part and the rank of each `fork` give

@@ -1,4 +1,4 @@
-//! A text that is built, with everything that is known of it.
+//! A text that keeps all rules and has a layout, with everything that is known of it.
 
 ghost use Rattle.std.specs.Prelude.{◌≡◌, ◌≤◌, ◌^◌, IfErr, IfOk, OnOk, length};
 ghost use Rattle.std.specs.Prelude.{vec_len};
