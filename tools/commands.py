@@ -783,6 +783,28 @@ ROWS += [
 ]
 
 
+# texts whose images run as the texts do, cycle by cycle: (the name, the harts, the input)
+OWN_IMAGES = [
+    ("empty.f95", 1, b""),
+    ("group fault one that went by itself.f95", 8, b""),
+    ("group prefix sums of an input.f95", 64, b" ".join(b"%d" % number for number in splits.NUMBERS)),
+    ("fork every form of statement.f95", 8, b""),
+    ("fork all 1,024 alone.f95", 1024, b""),
+    ("fork fault a fault in a part while another runs.f95", 6, b""),
+]
+
+
+def fault_of_image(program, folder, name, harts, given):
+    """What of the run of a text's image isn't as in the run of the text, if anything."""
+    subprocess.run([program, *build(name, "own.image")], cwd=folder, capture_output=True, timeout=SECONDS)
+    ended = [
+        subprocess.run([program, *words], cwd=folder, input=given, capture_output=True, timeout=SECONDS)
+        for words in (run(name, harts=harts), execute("own.image", harts=harts))
+    ]
+    of_text, of_image = [(one.returncode, one.stdout, one.stderr) for one in ended]
+    return None if of_text == of_image else f"its image gives {of_image!r:.200}, not {of_text!r:.200}"
+
+
 def limited(row):
     """What sets the limits of a row, if it has any, where its command begins."""
 
@@ -841,7 +863,12 @@ def main():
             failed += bool(found)
             if found:
                 print("fork95", *row.words, ":", "; ".join(found))
-    print(f"{len(ROWS) - failed} passed, {failed} failed")
+        for name, harts, given in OWN_IMAGES:
+            fault = fault_of_image(program, folder, name, harts, given)
+            failed += bool(fault)
+            if fault:
+                print(name, ":", fault)
+    print(f"{len(ROWS) + len(OWN_IMAGES) - failed} passed, {failed} failed")
     return 1 if failed else 0
 
 
