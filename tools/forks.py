@@ -38,6 +38,8 @@ assert all(share(room(count), count) == LEAST_SHARE and share(room(count) - 1, c
 
 SIX, SEVEN = range(6), range(7)
 OF_FIVE = b"sh int s[5]; void main(void) { start %s }"
+# some free words of which a count of parts keeps back all
+ALL_KEPT = NONE.free - 2 * KEPT
 # three words of globals, a group frame of five, and three parts
 PLACED, FRAME, THREE = Memory(3), 5, 3
 # the words that a part into which the whole space of a text without globals is divided has for frames and blocks
@@ -248,8 +250,8 @@ CALLED = b"sync void f(void) { sh int t[%d]; t[0] = 1; }\nvoid main(void) {\n  s
 FAULTS = {
     "one part more than fit": (1, b"void main(void) { start { fork (26215; @=0; $=0) seq putint(1); } }", b"", "GroupSpace", "1:27", 0),
     **{f"a word less for {count} parts": (5, forked(b"%d" % count, b"seq putint(1);")(room(count) - 1), b"", "GroupSpace", "3:5", 0) for count in (1, 2, 3, 100, HARTS)},
-    # 4 words for each part are as many as there are, one word more, and 2^32; and the largest count
-    **{f"a count of {count}": (3, forked(b"%d" % count, b"seq putint(1);")(NONE.free - 1), b"", "GroupSpace", "3:5", 0) for count in (131069, 131070, 2**30, 2**31 - 1)},
+    # the words that are kept back are all that are free, and more; 2^32 of them; and the largest count
+    **{f"a count of {count}": (3, forked(b"%d" % count, b"seq putint(1);")(ALL_KEPT), b"", "GroupSpace", "3:5", 0) for count in (ALL_KEPT // KEPT, ALL_KEPT // KEPT + 1, 2**30, 2**31 - 1)},
     "the lowest of a part": (6, IN_PART, b"", "GroupSpace", "3:5", 3),
     "a frame of a part with a word too many": (6, WIDE, b"", "GroupSpace", "3:5", 2),
     "a frame of a call in a part": (6, CALLED, b"", "GroupSpace", "4:5", 2),
