@@ -68,24 +68,24 @@ def remainder(dividend, divisor):
     return dividend - divisor * quotient(dividend, divisor)
 
 
-def into_parts(group, count, part_of, words, body, rank_of=None):
-    """A split into so many parts: each member enters the part that it names, if there is one."""
-    free = share(group.free, count)
-    if free < LEAST_SHARE:
+def into_parts(group, count, part_of, words, bodies, rank_of=None):
+    """A split into so many parts: each member enters the part that it names, if there is one. With ranks it is a `fork`."""
+    free = share(group.free, count) - HEADER
+    if free < LEAST_SHARE - HEADER:
         raise GivenUp
+    # all members name their parts and ranks before any part runs
+    named = [(part_of(member), member, rank_of(member) if rank_of else member.rank) for member in group.members]
     for name in range(count):
-        inside = [member for member in group.members if part_of(member) == name]
+        inside = [(member, member.rank, rank) for part, member, rank in named if part == name]
         if not inside:
             continue
-        if free - HEADER < words:
+        if free < words:
             raise GivenUp
-        ranks = [member.rank for member in inside]
-        new_ranks = [rank_of(member) if rank_of else member.rank for member in inside]
-        for member, rank in zip(inside, new_ranks):
+        for member, _, rank in inside:
             member.rank = rank
-        body[name if len(body) > 1 else 0](group.part(inside, name if rank_of else group.name, free - HEADER - words))
-        for member, rank in zip(inside, ranks):
-            member.rank = rank
+        bodies[name % len(bodies)](group.part([member for member, _, _ in inside], name if rank_of else group.name, free - words))
+        for member, before, _ in inside:
+            member.rank = before
 
 
 class Maker:
