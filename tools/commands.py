@@ -313,7 +313,7 @@ ROWS = [
     # an input that can't be read counts before the text, and is nothing to a command that takes none
     Row(run("refused.f95", harts=2), 3, b"", r"read fault\n", given_from="."),
     Row(execute("halt.image"), 3, b"", r"read fault\n", given_from="."),
-    Row(build("empty.f95", "unread.image"), 0, b"", r"built 302 words\n", files={"unread.image": is_image}, given_from="."),
+    Row(build("empty.f95", "unread.image"), 0, b"", r"built 342 words\n", files={"unread.image": is_image}, given_from="."),
     # a machine of 1,024 harts takes 136 MiB, one of a single hart 8
     Row(run("sums.f95", harts=1024), 5, b"", "", memory=100 << 20),
     Row(run("sums.f95"), 0, b"5\n", FINISHED, memory=100 << 20),
