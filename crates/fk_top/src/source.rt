@@ -1,6 +1,6 @@
 //! The outcome of a command for a source.
 
-ghost use Rattle.std.specs.Prelude.{◌⊎◌, ℕ, List, map, option_map, IfOk};
+ghost use Rattle.std.specs.Prelude.{◌⊎◌, ℕ, List, [], Some, codes, map, option_map, IfOk};
 ghost use Rattle.fk_image.specs.Limits.{IsWithinLimits};
 ghost use Rattle.fk_layout_globals.specs.View.{row_of};
 ghost use Rattle.fk_compile_text.specs.Text.{HasRows};
@@ -34,13 +34,27 @@ pub fn run_source<'a>(
 ) -> Result<Ending<'a>, AllocError>
     ensures { IfOk result (λ e. RefusesSource source.now (outcome_of e)
         ⊎ LacksGlobal source.now (option_map (λ s. s.now) show.entry) (outcome_of e)
-        ⊎ RunsSource source.now text.now run.entry.harts run.entry.cycles
+        ⊎ RunsSource source.now text.now run.harts run.cycles
         (option_map (λ s. s.now) show.entry) (outcome_of e)) }
 {
     match compile(alloc, source) {
         Ok(compiled) => run_and_show(alloc, compiled, text, run, show),
         Err(refusal) => refused_source(alloc, last_line_of(refusal)),
     }
+}
+
+/// Compiles a generated text, to be run by 64 harts, without input numbers and for at most 2^32 - 1
+/// cycles, and to show the variable `c`. Fails if there isn't enough memory.
+pub fn test_source<'a>(alloc: Global, source: &[u8]) -> Result<Ending<'a>, AllocError>
+    ensures { IfOk result (λ e. RefusesSource source.now (outcome_of e)
+        ⊎ LacksGlobal source.now (Some (codes "c")) (outcome_of e)
+        ⊎ RunsSource source.now [] 64 4294967295 (Some (codes "c")) (outcome_of e)) }
+{
+    let run = RunWords {
+        harts: 64,
+        cycles: u32::MAX,
+    };
+    run_source(alloc, source, &[], run, Some("c"))
 }
 
 // The image of a source is to be run, and to show the variable of a name, if one is given.
@@ -56,7 +70,7 @@ fn run_and_show<'a>(
     ensures { (source : List ℕ) → IsFaithful source compiled.entry.image
         → HasRows source (map row_of compiled.entry.rows.items)
         → IfOk result (λ e. LacksGlobal source (option_map (λ s. s.now) show.entry) (outcome_of e)
-        ⊎ RunsSource source text.now run.entry.harts run.entry.cycles
+        ⊎ RunsSource source text.now run.harts run.cycles
         (option_map (λ s. s.now) show.entry) (outcome_of e)) }
 {
     let Some(name) = show else {
@@ -86,7 +100,7 @@ pub fn audit_source<'a>(
     run: RunWords,
 ) -> Result<Ending<'a>, AllocError>
     ensures { IfOk result (λ e. RefusesSource source.now (outcome_of e)
-        ⊎ AuditsSource source.now text.now run.entry.harts run.entry.cycles (outcome_of e)) }
+        ⊎ AuditsSource source.now text.now run.harts run.cycles (outcome_of e)) }
 {
     match compile(alloc, source) {
         Ok(compiled) => audit_ending(alloc, &compiled.image, text, run),
@@ -102,7 +116,7 @@ pub fn trace_source<'a>(
     run: RunWords,
 ) -> Result<Ending<'a>, AllocError>
     ensures { IfOk result (λ e. RefusesSource source.now (outcome_of e)
-        ⊎ TracesSource source.now text.now run.entry.harts run.entry.cycles (outcome_of e)) }
+        ⊎ TracesSource source.now text.now run.harts run.cycles (outcome_of e)) }
 {
     match compile(alloc, source) {
         Ok(compiled) => run_ending(alloc, compiled.image, text, run, RunText::Trace),
