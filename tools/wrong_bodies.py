@@ -36,6 +36,7 @@ from edits import TOP, asked_of, fault_of, files_of, pairs_of, stated
 
 KEPT = TOP / "tools" / "wrong_bodies"
 EARLIER = TOP / "tools" / "out" / "wrong_bodies"
+PARTS = (("src", ".rt"), ("specs", ".antt"), ("proofs", ".antt"))
 VERDICT = re.compile(r"fn (\S+?): (proved|not proved|no proof)(.*)")
 ERROR = re.compile(r"(?:\./)?(\S+?):\d+:\d+: error: (?:(`[^`]*`): )?(.*)")
 PROVED = "it is still proved"
@@ -99,8 +100,7 @@ def told_by(crate):
 def sum_of(crate):
     """The checksum of all that the prover's word on an edit of the crate rests on, but for the edit."""
     below = [told_by(line.partition(":")[0]) for line in needed(crate)[:-1]]
-    parts = (("src", ".rt"), ("specs", ".antt"), ("proofs", ".antt"))
-    texts = [(str(path), path.read_bytes()) for part in parts for path in files_of(crate, *part)]
+    texts = [(str(path), path.read_bytes()) for part in PARTS for path in files_of(crate, *part)]
     texts = [(path.removeprefix(str(TOP)), text) for path, text in texts]
     return hashlib.sha256(repr((prover(), needed(crate), below, texts)).encode()).hexdigest()
 
@@ -123,18 +123,39 @@ def keep(key, edit, tried):
         (EARLIER / key[0] / key[1]).write_text(f"{sum_with(key, edit)} {tried.seconds:.1f}\n", encoding="utf-8")
 
 
+def has_libraries(crate):
+    """Whether each crate below this one has a library that is newer than its text and what is below it."""
+    newest = 0.0
+    for name in (line.partition(":")[0] for line in needed(crate)[:-1]):
+        paths = [path for part in PARTS for path in files_of(name, *part)]
+        newest = max(newest, *(path.stat().st_mtime for path in paths))
+        stamp = TOP / "crates" / name / "out" / "rlib" / "stamp"
+        if not stamp.is_file() or stamp.stat().st_mtime < newest:
+            return False
+    return True
+
+
+def link_or_copy(old, new):
+    """Links a file of a library, or what a check kept of a module, which checks replace and don't change; copies all else."""
+    try:
+        os.link(old, new) if "/out/rlib/" in old or old.endswith(".oantt") else shutil.copy2(old, new)
+    except OSError:
+        shutil.copy2(old, new)
+
+
 def copy_checkout(room, crate):
-    """Copies the crate and those below it. The copies of those below have their libraries in this checkout's folders out/."""
+    """Copies the crate, and those below it with their libraries, which are made first where they lack."""
+    if not has_libraries(crate):
+        run(["rt", "check", "--jobs", "1", "--only", ""], TOP / "crates" / crate)
     lines = needed(crate)
     (room / ".git").mkdir()
     (room / "crates.txt").write_text("\n".join(lines) + "\n", encoding="utf-8")
     shutil.copy(TOP / "HANDLES", room)
-    for name in (line.partition(":")[0] for line in lines):
-        folder = Path("crates") / name
+    for folder in (Path("crates") / line.partition(":")[0] for line in lines):
         shutil.copytree(TOP / folder, room / folder, ignore=shutil.ignore_patterns("out", "must-fail"))
-        if name != crate:
-            (TOP / folder / "out").mkdir(exist_ok=True)
-            (room / folder / "out").symlink_to(TOP / folder / "out")
+        library = folder / "out" / "rlib"
+        if folder.name != crate and (TOP / library).is_dir():
+            shutil.copytree(TOP / library, room / library, copy_function=link_or_copy)
 
 
 def check_edited(room, crate, edits, functions):
@@ -242,14 +263,6 @@ def try_definition(room, crate, edit, functions):
     return tried
 
 
-def link_or_copy(old, new):
-    """Links what a check kept of a module, which other checks replace and don't change, and copies all else."""
-    try:
-        os.link(old, new) if old.endswith(".oantt") else shutil.copy2(old, new)
-    except OSError:
-        shutil.copy2(old, new)
-
-
 def prove_before(room, crate, asked):
     """Proves these functions as they stand, so that tries begin with what is kept of it.
 
@@ -296,9 +309,9 @@ def try_crate(crate, edits, alone, anew):
             tries.update(try_edits(Path(name), crate, left, alone))
     for key, edit in left.items():
         keep(key, edit, tries[key])
-    failed = sum(1 for it in tries.values() if it.reason)
-    counts = f"{len(tries) - failed} passed, {failed} failed, {of_earlier} by earlier runs"
-    print(f"{crate}: {counts}; {minutes(tries.values()):.1f} processor minutes", flush=True)
+    failed = [f"{crate}/{name}: {it.reason}" for (_, name), it in tries.items() if it.reason]
+    counts = f"{len(tries) - len(failed)} passed, {len(failed)} failed, {of_earlier} by earlier runs"
+    print("\n".join([*failed, f"{crate}: {counts}; {minutes(tries.values()):.1f} processor minutes"]), flush=True)
     return tries
 
 
@@ -340,7 +353,7 @@ def main(words):
     edits = edits_of(crates)
     tries = apply_all(edits) if told.apply else try_all(edits, told)
     failed = {key: it.reason for key, it in tries.items() if it.reason}
-    for (crate, name), reason in failed.items():
+    for (crate, name), reason in failed.items() if told.apply else ():
         print(f"{crate}/{name}: {reason}")
     of_earlier = sum(1 for it in tries.values() if it.is_earlier)
     took = "" if told.apply else f"; {of_earlier} by earlier runs; all tries took {minutes(tries.values()):.0f} processor minutes"
