@@ -15,7 +15,7 @@ What isn't told so is tried alone, as are edits of definitions: the prover is as
 definition most directly, and then of all those whose contracts rest on it. With --alone all edits are tried alone.
 
 What was refused stays so while its crate and the specs, signatures and contracts below it stay the same. So it is kept in
-tools/out, by the checksum of all these and of the edit, and not tried again, unless by --anew. The last line counts the
+tools/out at once, by the checksum of all these and of the edit, and not tried again, unless by --anew. The last line counts the
 edits that passed and failed, those that earlier runs tried, and the processor minutes of all tries, theirs too. With
 --apply nothing is proved: each edit is only applied.
 """
@@ -118,7 +118,7 @@ def earlier_try(key, edit):
 
 def keep(key, edit, tried):
     """Keeps the try of an edit that passes."""
-    if not tried.reason and not tried.is_earlier:
+    if not tried.reason:
         (EARLIER / key[0]).mkdir(parents=True, exist_ok=True)
         (EARLIER / key[0] / key[1]).write_text(f"{sum_with(key, edit)} {tried.seconds:.1f}\n", encoding="utf-8")
 
@@ -247,8 +247,10 @@ def try_bodies(room, crate, asked, edits, alone):
         rounds = rounds_of(left) if is_told else [{key: functions} for key, functions in left.items()]
         for together in rounds:
             told, seconds = try_round(room, crate, together, edits)
-            reasons.update(told)
             spent.update({key: spent[key] + seconds for key in together})
+            for key, reason in told.items():
+                reasons[key] = reason
+                keep(key, edits[key], Try(reason, spent[key]))
         is_told = is_told and len(reasons) > len(asked) - len(left)
     return {key: Try(reason, spent[key]) for key, reason in reasons.items()}
 
@@ -286,6 +288,7 @@ def try_definitions(room, crate, asked, edits):
             shutil.copytree(kept, out, copy_function=link_or_copy)
         tries[key] = try_definition(room, crate, edits[key], functions)
         tries[key].seconds += seconds / len(asked)
+        keep(key, edits[key], tries[key])
     return tries
 
 
@@ -307,8 +310,6 @@ def try_crate(crate, edits, alone, anew):
         with tempfile.TemporaryDirectory(prefix="wrong-bodies-") as name:
             copy_checkout(Path(name), crate)
             tries.update(try_edits(Path(name), crate, left, alone))
-    for key, edit in left.items():
-        keep(key, edit, tries[key])
     failed = [f"{crate}/{name}: {it.reason}" for (_, name), it in tries.items() if it.reason]
     counts = f"{len(tries) - len(failed)} passed, {len(failed)} failed, {of_earlier} by earlier runs"
     print("\n".join([*failed, f"{crate}: {counts}; {minutes(tries.values()):.1f} processor minutes"]), flush=True)
