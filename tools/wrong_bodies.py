@@ -214,7 +214,7 @@ def reason_of(lines, changed):
     """Why an edit doesn't pass of which these lines were said, or None."""
     counts = [it for it in map(COUNT.match, lines) if it]
     if not counts:
-        return f"the prover came to no verdict: {next((it for it in lines if 'error' in it), '')[:160]}"
+        return f"the prover came to no verdict: {next((it for it in reversed(lines) if it.strip()), '')[:240]}"
     if counts[-1][3] or counts[-1][1] and counts[-1][1] == counts[-1][2]:
         return PROVED
     errors = [it.groups() for it in map(ERROR.match, lines) if it]
