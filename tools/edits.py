@@ -115,12 +115,12 @@ def functions_in(crate, path):
 
 
 def stated(crate, path):
-    """A file of src/ without the bodies of functions that have contracts: what the proof of another function can rest on."""
+    """The lines of a file of src/ without the bodies of functions that have contracts: what other proofs can rest on."""
     lines = lines_of(path)
     for function in reversed(functions_in(crate, path)):
         if lines[function.body].strip() == "{":
             del lines[function.body : function.ends + 1]
-    return "\n".join(lines)
+    return lines
 
 
 def words_of(lines):

@@ -32,7 +32,7 @@ from dataclasses import dataclass
 from functools import cache
 from pathlib import Path
 
-from edits import TOP, asked_of, fault_of, files_of, pairs_of, stated
+from edits import TOP, asked_of, fault_of, files_of, lines_of, pairs_of, stated
 
 KEPT = TOP / "tools" / "wrong_bodies"
 EARLIER = TOP / "tools" / "out" / "wrong_bodies"
@@ -88,11 +88,16 @@ def prover():
     return "\n".join(run(["rt", "version"], TOP)[0])
 
 
+def without_comments(lines):
+    """The lines of a file that the prover reads."""
+    return [line for line in lines if line.strip() and not line.lstrip().startswith(("//", "--"))]
+
+
 @cache
 def told_by(crate):
     """The checksum of all that a crate tells those above it: its specs, and its code without bodies."""
-    texts = [(path.name, path.read_text(encoding="utf-8")) for path in files_of(crate, "specs", ".antt")]
-    texts += [(path.name, stated(crate, path)) for path in files_of(crate, "src", ".rt")]
+    texts = [(path.name, without_comments(lines_of(path))) for path in files_of(crate, "specs", ".antt")]
+    texts += [(path.name, without_comments(stated(crate, path))) for path in files_of(crate, "src", ".rt")]
     return hashlib.sha256(repr(texts).encode()).hexdigest()
 
 
@@ -100,8 +105,8 @@ def told_by(crate):
 def sum_of(crate):
     """The checksum of all that the prover's word on an edit of the crate rests on, but for the edit."""
     below = [told_by(line.partition(":")[0]) for line in needed(crate)[:-1]]
-    texts = [(str(path), path.read_bytes()) for part in PARTS for path in files_of(crate, *part)]
-    texts = [(path.removeprefix(str(TOP)), text) for path, text in texts]
+    paths = [path for part in PARTS for path in files_of(crate, *part)]
+    texts = [(str(path.relative_to(TOP)), without_comments(lines_of(path))) for path in paths]
     return hashlib.sha256(repr((prover(), needed(crate), below, texts)).encode()).hexdigest()
 
 
