@@ -23,6 +23,7 @@ use Rattle.fk_trace.specs.Early.{trace_of}
 use Rattle.fk_layout_globals.specs.Rows.{Row}
 use Rattle.fk_compile_text.specs.Text.{HasGlobal}
 use Rattle.fk_compile.specs.Faithful.{IsFaithful}
+use Rattle.fk_compile.specs.Events.{TellsEvents}
 use Rattle.fk_top.specs.declared.kinds.FaultKind.TheVariants as fault
 use Rattle.fk_top.specs.declared.report.Report.{Report}
 use Rattle.fk_top.specs.declared.report.Report.TheVariants as reports
@@ -235,11 +236,13 @@ pub record RunsSource (source text : List ℕ) (harts cycles : ℕ) (show : Opti
   pub is_shown : IsShown source show shown
   pub ends : EndsOn image text harts cycles (Prints shown) outcome
 
--- An image of the source was run, and its run was traced; or the input was refused.
+-- An image of the source was run, and its run was traced, with the events of the source's
+-- operations; or the input was refused.
 pub record TracesSource (source text : List ℕ) (harts cycles : ℕ) (outcome : Outcome)
     : Type 0 where
   pub image : Image
   pub compiled : IsFaithful source image
+  pub events : TellsEvents source image
   pub ends : EndsOn image text harts cycles Traces outcome
 
 -- The machine of an image ran on the numbers of the text, and was audited.

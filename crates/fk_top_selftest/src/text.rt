@@ -1,6 +1,6 @@
 //! Making the text.
 
-ghost use Rattle.std.specs.Prelude.{◌≡◌, ◌<◌, ◌^◌, string_bytes, IfOk};
+ghost use Rattle.std.specs.Prelude.{◌≡◌, string_bytes, IfOk};
 ghost use Rattle.fk_top_selftest.specs.Generated.{generated, statement};
 
 use std::alloc::{AllocError, Global};

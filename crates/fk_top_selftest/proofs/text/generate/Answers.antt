@@ -1,4 +1,4 @@
-use Rattle.std.proofs.Common.{◌≡◌, ◌+◌, ◌≤◌, [], ◌∷◌, ◌++◌, sym, ap, ◌∙◌, arith}
+use Rattle.std.proofs.Common.{◌+◌, ◌≤◌, [], ◌∷◌, ◌++◌, sym, ap, ◌∙◌, arith}
 use Rattle.fk_top_selftest.specs.Generated.{statement}
 use Rattle.fk_top_selftest.proofs.Statements.{behind, first_lines, head, last_line, lines_from, next_line}
 use Rattle.fk_top_selftest.proofs.text.generate.Goals as goal
