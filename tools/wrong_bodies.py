@@ -15,9 +15,9 @@ What isn't told so is tried alone, as are edits of definitions: the prover is as
 definition most directly, and then of all those whose contracts rest on it. With --alone all edits are tried alone.
 
 What was refused stays so while its crate and the specs, signatures and contracts below it stay the same. So it is kept in
-tools/out at once, by the checksum of all these and of the edit, and not tried again, unless by --anew. The last line counts the
-edits that passed and failed, those that earlier runs tried, and the processor minutes of all tries, theirs too. With
---apply nothing is proved: each edit is only applied.
+tools/out at once, by the checksum of all these and of the edit, but for comments. It isn't tried again, whatever prover
+refused it, unless by --anew. The last line counts the edits that passed and failed, those that earlier runs tried, and the
+processor minutes of all tries, theirs too. With --apply nothing is proved: each edit is only applied.
 """
 import argparse
 import hashlib
@@ -83,11 +83,6 @@ def needed(crate):
     return found
 
 
-@cache
-def prover():
-    return "\n".join(run(["rt", "version"], TOP)[0])
-
-
 def without_comments(lines):
     """The lines of a file that the prover reads."""
     return [line for line in lines if line.strip() and not line.lstrip().startswith(("//", "--"))]
@@ -107,7 +102,7 @@ def sum_of(crate):
     below = [told_by(line.partition(":")[0]) for line in needed(crate)[:-1]]
     paths = [path for part in PARTS for path in files_of(crate, *part)]
     texts = [(str(path.relative_to(TOP)), without_comments(lines_of(path))) for path in paths]
-    return hashlib.sha256(repr((prover(), needed(crate), below, texts)).encode()).hexdigest()
+    return hashlib.sha256(repr((needed(crate), below, texts)).encode()).hexdigest()
 
 
 def sum_with(key, edit):
