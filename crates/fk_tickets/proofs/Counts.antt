@@ -1,8 +1,8 @@
 -- Counts of draws and gives, which don't wrap, and how many tickets are out.
-use Rattle.std.proofs.Common.{◌≡◌, ℕ, zero, suc, ◌+◌, ◌<◌, ◌≤◌, ◌^◌, ◌%◌, ◌==◌, true, false, List, refl, sym, ap, ap₂, ◌∙◌, arith, inl, inr}
+use Rattle.std.proofs.Common.{◌≡◌, ℕ, zero, suc, ◌+◌, ◌<◌, ◌≤◌, ◌==◌, List, refl, ap, ap₂, arith, inl, inr}
 use Rattle.std.specs.Prelude.{if◌then◌else◌, fold, take}
-use Rattle.std.proofs.lemmas.Bool.{cases_eq, cases_lt, eq-eqb, ne_eqb}
-use Rattle.fk_tickets.specs.Lock.{Act, Draw, Look, Give, Event, Stage, Outside, Waiting, Inside, Lock, with_stage}
+use Rattle.std.proofs.lemmas.Bool.{cases_lt, eq-eqb, ne_eqb}
+use Rattle.fk_tickets.specs.Lock.{Act, Draw, Look, Give, Event, Stage, Outside, Waiting, Inside, with_stage}
 
 -- the draws and the gives so far, and for each processor the draws before its last one
 pub record Count : Type 0 where

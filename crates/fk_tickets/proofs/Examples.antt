@@ -1,6 +1,6 @@
 -- A history of two processors, tried before the proof: what the words and the stages are, and that the counts of it are as the proof says.
-use Rattle.std.proofs.Common.{◌≡◌, ℕ, List, [], ◌∷◌, refl}
-use Rattle.fk_tickets.specs.Lock.{Event, Draw, Look, Give, Outside, Waiting, Inside, at, event}
+use Rattle.std.proofs.Common.{◌≡◌, List, [], ◌∷◌, refl}
+use Rattle.fk_tickets.specs.Lock.{Event, Draw, Look, Give, Waiting, Inside, at, event}
 
 two : List Event
 two = event 0 Draw ∷ event 1 Draw ∷ event 1 Look ∷ event 0 Look ∷ event 0 Give ∷ event 0 Draw ∷ event 1 Look ∷ event 1 Give ∷ event 0 Look ∷ []

@@ -1,8 +1,8 @@
 -- Whole histories: what holds after each event, and the two laws.
 use Rattle.std.proofs.Common.{◌≡◌, ℕ, zero, suc, ◌<◌, ◌≤◌, ◌^◌, List, [], ◌∷◌, Option, Some, None, refl, sym, ap, ◌∙◌, subst, arith, inl, inr}
 use Rattle.std.specs.Prelude.{fold, slice_get, take}
-use Rattle.std.proofs.lemmas.Bool.{cases_eq, cases_lt}
-use Rattle.fk_tickets.specs.Lock.{Act, Draw, Look, Give, Event, Inside, Lock, IsFair, IsInside, Enters, Excludes, FirstDrawnEntersFirst, after, at, event, opening}
+use Rattle.std.proofs.lemmas.Bool.{cases_lt}
+use Rattle.fk_tickets.specs.Lock.{Act, Draw, Look, Give, Event, IsFair, Enters, Excludes, FirstDrawnEntersFirst, after, at, event, opening}
 use Rattle.fk_tickets.proofs.Counts.{Count, count_act, counted, counts, first_count, other_drawn, its_drawn, ticket_of}
 use Rattle.fk_tickets.proofs.Kept.{Holds, holds_first, kept}
 

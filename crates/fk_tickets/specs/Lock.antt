@@ -1,5 +1,5 @@
 -- A lock of tickets: its two words, and what processors do with them one after the other.
-use Rattle.std.specs.Prelude.{◌≡◌, ◌≢◌, ℕ, suc, ◌+◌, ◌<◌, ◌%◌, ◌^◌, ◌==◌, List, Option, Some, fold}
+use Rattle.std.specs.Prelude.{◌≡◌, ◌≢◌, ℕ, suc, ◌+◌, ◌<◌, ◌%◌, ◌^◌, ◌==◌, List, Some, fold}
 use Rattle.std.specs.Prelude.{slice_get, take, if◌then◌else◌}
 
 -- What one request does with the words. A draw adds 1 to `next`, and its former value is the
