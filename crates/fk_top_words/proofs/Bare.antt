@@ -1,5 +1,5 @@
 -- The words behind the name of a command without arguments: there are none, or `--` alone.
-use Rattle.std.proofs.Common.{◌≡◌, ℕ, List, [], ◌∷◌, Option, Some, None, codes, refl, sym, ap, ◌∙◌, subst, map}
+use Rattle.std.proofs.Common.{◌≡◌, ℕ, false, List, [], ◌∷◌, Option, Some, None, codes, refl, sym, ap, ◌∙◌, subst, map}
 use Rattle.std.specs.Prelude.{slice_get}
 use Rattle.std.specs.Str.{IsUtf8, chars}
 use Rattle.clap.specs.declared.error.kind.ErrorKind.TheVariants.{UnknownArgument}
@@ -30,14 +30,14 @@ no_file : (words : List Text) (us : List Argument) → us ≡ map (argument File
 no_file [] us are e = refl
 no_file (word ∷ words) us are e = absurd (no_argument File word (map (argument File) words) (sym (ap all_values are) ∙ e))
 
-pub spelled_bare : (words : List Text) (us : List Argument) → Spells words us → all_values us ≡ no_values → Bare words
-spelled_bare [] [] Nothing e = none refl
-spelled_bare (word ∷ words) (u ∷ us) (Plain word undashed rest) e = absurd (no_argument File word us e)
-spelled_bare (option ∷ value ∷ words) (u ∷ us) (Apart p option value is undashed rest) e = absurd (no_argument p value us e)
-spelled_bare (word ∷ words) (u ∷ us) (Joined p option value word is text rest) e = absurd (no_argument p value us e)
-spelled_bare (word ∷ words) (u ∷ us) (Attached first rest word other text spelled) e = absurd (no_argument Image (first ∷ rest) us e)
-spelled_bare (word ∷ words) us (Ended words word us is are) e =
-    ended (ap (λ w. w ∷ words) is ∙ ap (λ ws. (45 ∷ 45 ∷ []) ∷ ws) (no_file words us are e))
+pub spelled_bare : {words : List Text} {us : List Argument} → Spells words us → all_values us ≡ no_values → Bare words
+spelled_bare Nothing e = none refl
+spelled_bare (Plain {words} {arguments} word undashed rest) e = absurd (no_argument File word arguments e)
+spelled_bare (Apart {words} {arguments} p option value is undashed rest) e = absurd (no_argument p value arguments e)
+spelled_bare (Joined {words} {arguments} p option value word is text rest) e = absurd (no_argument p value arguments e)
+spelled_bare (Attached {words} {arguments} first rest word other text spelled) e = absurd (no_argument Image (first ∷ rest) arguments e)
+spelled_bare (Ended words word arguments is are) e =
+    ended (ap (λ w. w ∷ words) is ∙ ap (λ ws. (45 ∷ 45 ∷ []) ∷ ws) (no_file words arguments are e))
 
 pub gives_none : (words : List Text) → Bare words → Gives words no_values
 gives_none words (none is) = subst (λ ws. Gives ws no_values) (sym is) (record { arguments = []; spelled = Nothing; values_are = refl })

@@ -108,7 +108,7 @@ goes name ps w after word words turn allowed = record {
   rows_same = rows-is ps w after word words (turn.stands allowed);
 }
 
-goes_fine : {Allowed : Type 0} (name : Text) (ps : List Part) (w after : Walk) (word : Text) (words : List Text) → Turn name ps w word Allowed after
+pub goes_fine : {Allowed : Type 0} (name : Text) (ps : List Part) (w after : Walk) (word : Text) (words : List Text) → Turn name ps w word Allowed after
     → rest_fault name ps w (word ∷ words) ≡ [] → Goes name ps w after word words Allowed
 goes_fine name ps w after word words turn fine =
     goes name ps w after word words turn (turn.then_allowed (turn_of name ps w word words fine))

@@ -500,7 +500,7 @@ asked_as word words (Selftest statements) reads =
 asked_as word words Locks reads =
     let b = behind_locks words in
     subst (λ w. IsAsked (w ∷ words) Locks) (sym reads.0)
-    (record { fault = b.fault ∙ bare_fine words (spelled_bare words reads.1.arguments reads.1.spelled reads.1.values_are); name = codes "locks"; found = rows_at_end [] (at [] None false false) words; matches = b.rows_are; asks = refl })
+    (record { fault = b.fault ∙ bare_fine words (spelled_bare reads.1.spelled reads.1.values_are); name = codes "locks"; found = rows_at_end [] (at [] None false false) words; matches = b.rows_are; asks = refl })
 
 pub asked : (words : List Text) (command : Command) → Reads words command → IsAsked words command
 asked [] command reads = absurd reads
