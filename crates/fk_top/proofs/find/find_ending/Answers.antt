@@ -33,7 +33,7 @@ returns-in-Ok-take_input-clause-ends g c =
     let input = given_of g.S.Source.left g.S.Source.faults c.args.input.now c.take_input.new.input in
     let request = request_of g.F.Store.files g.F.Store.fetch_faults words c.args.files.now c.read_bytes.new.files input in
     read_ends c.command_ending.result request (command_of c.in-Ok.command) (origin_from c.origin_of.result) c.in-Ok-read_bytes.bytes.items _ c.in-Ok-take_input.text.items _ c.origin_of.ensures
-    c.as_slice.ensures.value c.as_slice-2.ensures.value c.in-Ok.ensures.reads c.in-Ok-read_bytes.ensures.read c.in-Ok-take_input.ensures.taken c.command_ending.ensures
+    c.as_slice.ensures.value c.as_slice-in-Ok-take_input.ensures.value c.in-Ok.ensures.reads c.in-Ok-read_bytes.ensures.read c.in-Ok-take_input.ensures.taken c.command_ending.ensures
 
 pub returns-in-Ok-take_input-clause-left : goal.returns-in-Ok-take_input-clause-left
 returns-in-Ok-take_input-clause-left g c = λ not. c.take_input.ensures.left (λ takes. not (command_of c.in-Ok.command, c.in-Ok.ensures.reads, takes))
