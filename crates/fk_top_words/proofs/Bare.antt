@@ -1,10 +1,10 @@
 -- The words behind the name of a command without arguments: there are none, or `--` alone.
-use Rattle.std.proofs.Common.{◌≡◌, ℕ, false, List, [], ◌∷◌, Option, Some, None, codes, refl, sym, ap, ◌∙◌, subst, map}
+use Rattle.std.proofs.Common.{◌≡◌, ℕ, true, false, List, [], ◌∷◌, Option, Some, None, codes, refl, sym, ap, ◌∙◌, subst, map}
 use Rattle.std.specs.Prelude.{slice_get}
 use Rattle.std.specs.Str.{IsUtf8, chars}
 use Rattle.clap.specs.declared.error.kind.ErrorKind.TheVariants.{UnknownArgument}
 use Rattle.clap.specs.Walk.{walked}
-use Rattle.clap.specs.Faults.{flags_fault, turn_fault, walk_fault}
+use Rattle.clap.specs.Faults.{defaults_fault, flags_fault, turn_fault, walk_fault}
 use Rattle.fk_top_words.specs.Arguments.{Text, Part, File, Harts, Cycles, Show, Image, Argument, Values, Gives, Spells, Nothing, Plain, Apart, Joined, Attached, Ended, all_values, argument, values_of}
 use Rattle.fk_top_words.specs.Command.{no_values}
 use Rattle.fk_top_words.proofs.Rules.{command}
@@ -50,7 +50,7 @@ abbrev name : Text
 name = codes "locks"
 
 pub bare_fine : (words : List Text) → Bare words → rest_fault name [] (at [] None false false) words ≡ []
-unfolding walk_fault walked
+unfolding walk_fault walked defaults_fault
 bare_fine words (none is) = subst (λ ws. rest_fault name [] (at [] None false false) ws ≡ []) (sym is) refl
 bare_fine words (ended is) = subst (λ ws. rest_fault name [] (at [] None false false) ws ≡ []) (sym is) refl
 

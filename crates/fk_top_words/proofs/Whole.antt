@@ -286,7 +286,7 @@ taken_word word words texts (is_selftest e) fine =
 taken_word word words texts (is_locks e) fine =
     let is = taken_bare words texts (sym (behind_locks words).fault ∙ subst (λ w. fault_of written_app (w ∷ words) ≡ []) e fine) in
     subst (λ w. IsTaken (w ∷ words)) (sym e)
-    (record { name = codes "locks"; found = rows_at_end [] (at [] None false false) words; matches = (behind_locks words).rows_are; reads = asked_locks words _ is })
+    (record { name = codes "locks"; found = rows_at_end [] (at [] None false false) words; matches = (behind_locks words).rows_are; reads = asked_locks words (rows_at_end [] (at [] None false false) words) is })
 taken_word word words texts (other none) fine = absurd (other_word word words none fine)
 
 pub taken : (words : List Text) → AreTexts words → fault_of written_app words ≡ [] → IsTaken words
