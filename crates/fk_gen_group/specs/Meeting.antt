@@ -26,7 +26,7 @@ pub record Meeting : Type 0 where
   pub commits : Bool
 
 abbrev pub leaving_line : Bool → Instruction → MarkedLine
-leaving_line true i = commits i
+leaving_line true i = commits 1 i
 leaving_line false i = quiet i
 
 abbrev pub count_of_leaving : Bool → ℕ

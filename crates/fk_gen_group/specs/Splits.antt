@@ -34,7 +34,7 @@ level_word levels count = levels.behind + 4 * count
 abbrev pub no_room : (site : ℕ) → List MarkedLine
 no_room site =
     quiet (Lui t1 (high_part site)) ∷ quiet (Addi t1 t1 (low_part site))
-    ∷ commits (Sw device_register t1 8) ∷ []
+    ∷ commits 1 (Sw device_register t1 8) ∷ []
 
 -- ---- splits
 
@@ -102,7 +102,7 @@ counting_lines register =
     quiet (Sw t1 zero_register (4 * barrier_word)) ∷
     quiet (AmoAddW zero_register t1 register false false) ∷
     quiet (Lw t0 t1 (4 * barrier_word))
-    ∷ commits (Sw t1 zero_register (4 * barrier_word)) ∷ []
+    ∷ commits 1 (Sw t1 zero_register (4 * barrier_word)) ∷ []
 
 -- A member that enters saves the level of its group, and has the node, the size and the space of
 -- its part.
@@ -168,7 +168,7 @@ staying_lines d =
     quiet (operand t3 d) ∷ quiet (Sltu t3 zero_register t3) ∷
     quiet (AmoAddW zero_register node_register t3 false false) ∷
     quiet (Lw t0 node_register (4 * barrier_word)) ∷
-    commits (Sw node_register zero_register (4 * barrier_word))
+    commits 1 (Sw node_register zero_register (4 * barrier_word))
     ∷ quiet (Bne t3 zero_register 24) ∷ []
 
 abbrev pub size_line : List MarkedLine
