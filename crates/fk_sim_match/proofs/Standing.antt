@@ -71,7 +71,7 @@ members_stand_at_stages core image places nestings cycles firsts main setting pl
 -- the end of `main` leaves what all share, and its processor is to end
 halt_part : (core : List CoreOp) (setting : Setting) (i : ℕ) (op : CoreOp) (s : Commons) (p : Owner) → OpAt core i op Halt → p.runner.left.at ≡ i
     → part core setting 1 s p ≡ Passes s (is_due core i op Halt p)
-halt_part core setting i op s p stands at = operations_are_next core i op Halt setting s p stands at
+halt_part core setting i op s p stands at = operations_are_next core i op Halt setting 0 s p stands at
 
 abbrev done_in : Doing → Part Commons Doing → Doing
 done_in other (Passes s d) = d
