@@ -182,7 +182,7 @@ starters_set_out core image places nestings cycles firsts main setting plan firs
 
 module _ (core : List CoreOp) (image : Image) (places : Places) (nestings : Nestings) (setting : Setting) (plan : Plan) (first : ℕ → ℕ) where
   all_alike : (d : ℕ) (ms : List Member) (ps : List Owner) → length ms ≡ length ps
-      → AllAct (core_source core setting) image plan (blocks_of core image places nestings setting plan first) d (all_act d ms) ms ps
+      → AllAct (core_source core setting) image plan (blocks_of core image places nestings setting plan first) d 0 (all_act d ms) ms ps
   all_alike d [] [] e = tt
   all_alike d (m ∷ ms) (p ∷ ps) e = (refl, all_alike d ms ps (omega (arith, e)))
   all_alike d [] (p ∷ ps) e = absurd (omega (arith, e))
@@ -207,7 +207,7 @@ module _ (core : List CoreOp) (image : Image) (places : Places) (nestings : Nest
   in_lockstep : (t : MachineSetting) (g d : ℕ) (ms : List Member) (ps : List Owner) (own : Memory) → length ms ≡ length ps
       → Together (core_source core setting) image (plan.words g) t 1 d ms ps own (Behind (later (in_cycles d t)) g)
       → InLockstep (core_source core setting) image plan (blocks_of core image places nestings setting plan first) t g (all_act d ms) ms ps own
-  in_lockstep t g d ms ps own many x = record { distance = d; alike = all_alike d ms ps many; together = x }
+  in_lockstep t g d ms ps own many x = record { distance = d; inner = 0; alike = all_alike d ms ps many; together = x }
 
   still_at_rest : (g : ℕ) (own own' : Memory) → ((j : ℕ) → (j ≡ first g + agreed_word → ⊥) → own' j ≡ own j) → IsAtRest (first g) own → IsAtRest (first g) own'
   still_at_rest g own own' others rest = record {
