@@ -22,8 +22,10 @@ use Rattle.fk_sim_block.specs.Owner.{Doing}
 use Rattle.fk_sim_block.specs.Node.{Nestings, IsAtRest}
 use Rattle.fk_sim_match.specs.Stage.{Stage, counts_for}
 use Rattle.fk_sim_match.specs.Nodes.{first_of}
+use Rattle.fk_sim_rounds.specs.After.{runners_of}
 use Rattle.fk_sim_match.proofs.Rounds.{not_none}
 use Rattle.fk_sim_rounds.specs.Rest.{HasNoGroup}
+use Rattle.fk_sim_rounds.proofs.Results.{due_do_one}
 use Rattle.fk_sim_rounds.proofs.Rest.{known_rounds_keep_groups}
 use Rattle.fk_sim_rounds.specs.RestInRuns.{HaveOneHeader}
 use Rattle.fk_sim_rounds.proofs.RestInRuns.{cycles_stay_ready, starts_stay_ready}

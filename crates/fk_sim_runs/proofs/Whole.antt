@@ -29,7 +29,7 @@ use Rattle.fk_sim_runs.proofs.Ready.{reached_cycles_stay_ready, reached_starts_f
 use Rattle.fk_sim_runs.specs.Pace.{AreInTime}
 use Rattle.fk_sim_runs.specs.Runs.{StandsBeside, IsRound, GoesFurther, spaces_in_cycle, AlwaysGoesFurther, places_in, IsBehind}
 use Rattle.fk_sim_runs.proofs.Turning.{stay_length}
-use Rattle.fk_sim_runs.proofs.Runs.{few_harts, stand_in, many_in, machines_follow_group_runs, orderly_rounds_go_further, unions_go_further, starts_go_further}
+use Rattle.fk_sim_runs.proofs.Runs.{few_harts, singles_by, stand_in, many_in, machines_follow_group_runs, orderly_rounds_go_further, unions_go_further, starts_go_further}
 use Rattle.fk_sim_runs.specs.Follow.{CarriesTrees, MachinesFollowTrees}
 use Rattle.fk_sim_runs.proofs.Begin.{all_begin, begins_at}
 use Rattle.fk_sim_runs.proofs.Machines as reaching
@@ -64,7 +64,7 @@ module _ (runs_reach : RunsReach) (runs_reach_rounds : RunsReachRounds) (core : 
         let f = with.followed in
         let possible = subst (λ x. is_possible (next core) setting x s ≡ true) r.round r.possible in
         let round : IsRoundOf core setting s stages r.did
-        = record { ps = r.makes.ps; shared = r.makes.shared; shared' = r.makes.store; order = r.makes.order; beside = r.makes.beside; possible = possible; passes = r.makes.passes } in
+        = record { ps = r.makes.ps; shared = r.makes.shared; shared' = r.makes.store; order = r.makes.order; beside = r.makes.beside; singles = r.makes.singles; possible = possible; passes = r.makes.passes } in
         let due = subst (AllDue core s.tree spaces 0 stages) f.beside.runners f.before.due in
         let go = reached_stages_go_on core nestings main setting s stages r.afters r.did spaces carries.tree few are round due r.makes.stay in
         let tree = (result (next core) setting (counts_for stages) s).tree in
@@ -96,7 +96,7 @@ module _ (runs_reach : RunsReach) (runs_reach_rounds : RunsReachRounds) (core : 
         let found = reached_starts_find_headers core image places nestings main setting s nodes printed stages m carries.tree are.before are.after is_input.room
         (few_harts setting nodes m f.ps few before.as_many before.many) running to possible ready in
         let round : IsRoundOf core setting s stages r.did
-        = record { ps = r.makes.ps; shared = r.makes.shared; shared' = r.makes.store; order = r.makes.order; beside = r.makes.beside; possible = possible; passes = r.makes.passes } in
+        = record { ps = r.makes.ps; shared = r.makes.shared; shared' = r.makes.store; order = r.makes.order; beside = r.makes.beside; singles = r.makes.singles; possible = possible; passes = r.makes.passes } in
         let kept = stay_length stages r.afters r.makes.stay in
         let staged = (many_length nodes m.harts stages f.bound.stages_as_many).1 in
         let many = before.many in
