@@ -355,7 +355,7 @@ module _ (core : List CoreOp) (image : Image) (places : Places) (nestings : Nest
     free : is_lockstep (t.kind tree n) ≡ false
     free =
         ⊎_elim
-        (λ is. let acts = group_acts n is in let e = sym leaves ∙ acts.1 h x.stage x.node x.at in absurd (cc))
+        (λ is. let acts = group_acts n is in let e = sym leaves ∙ acts.2 h x.stage x.node x.at in absurd (cc))
         (λ no. no)
         (cases_Bool (is_lockstep (t.kind tree n)))
 
