@@ -293,15 +293,16 @@ module _ (core : List CoreOp) (image : Image) (places : Places) (nestings : Nest
   -- or is in a group still, or in another one
   pub steps_to_group : (m : Member) (p : Owner) (d : Doing) → (d ≡ idle p → ⊥) → (a : Option Stage) → plan'.in_lockstep (tree.places m.number) ≡ true → OneLeft a p d
       → (a ≡ None → halts d.acting.due ≡ false → HasNext core nestings setting tree m.number (becomes d)) → HartGoes m a p d
-  steps_to_group m p d busy a lock (inl x) has = absurd (busy x.2)
+  steps_to_group m p d busy a lock (inl x) has = absurd (busy x.3)
   steps_to_group m p d busy a lock (inr x) has =
       let next = has x.0 x.1 in
       let q = becomes d in
       subst (λ c. HartGoes m c p d) (sym x.0)
       (record {
-        stage = Acts (distances (tree.places m.number));
+        stage = Acts (distances (tree.places m.number)) 0;
         changes = (tt, λ free. absurd (false≢true (sym free ∙ lock)));
         due = record {
+          single = refl;
           step = step_at core q.runner.left.at next.op next.operation q.runner.left.callers;
           next_is = next_here core q.runner.left.at next.op next.operation q.runner.left.callers next.stands;
           joint = λ free. absurd (false≢true (sym free ∙ lock));
