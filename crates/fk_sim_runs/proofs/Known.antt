@@ -185,8 +185,8 @@ steppers core setting stages s ps did shared shared' order beside ones all =
 
 -- there are as many as the state has processors
 pub actings_many : (core : List CoreOp) (leads : JumpsLead core) (setting : Setting) (stages : List Stage) (s : State Position) (ps : List Owner) (did : List Doing) (shared shared' : Commons)
-    → AreInOrder 0 s.runners → IsBeside core setting s ps shared → is_possible (next core) setting (counts_for stages) s ≡ true → AllPass (core_source core setting) (counts_for stages) ps shared did shared'
-    → length (actings did) ≡ length s.runners
+    → AreInOrder 0 s.runners → IsBeside core setting s ps shared → AllDoOne stages → is_possible (next core) setting (counts_for stages) s ≡ true
+    → AllPass (core_source core setting) (counts_for stages) ps shared did shared' → length (actings did) ≡ length s.runners
 actings_many core leads setting stages s ps did shared shared' order beside ones possible all =
     ap (λ l. length l) (sym (steppers core setting stages s ps did shared shared' order beside ones all))
     ∙ stepping_length (next core) setting (counts_for stages) (landed_state core s) (counts_single stages ones) (possible_landed core leads setting s (counts_for stages) possible)

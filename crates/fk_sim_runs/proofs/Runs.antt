@@ -222,6 +222,7 @@ module _ (core : List CoreOp) (image : Image) (places : Places) (nestings : Nest
         let s = run (next core) setting schedule first in
         let behind = result (next core) setting (counts_for x.stages) s in
         let spaces = spaces_in_cycle core setting s x.stages in
+        let ones = singles_by core image places nestings setting (ranges_of s) x.uniting s x.nodes printed x.stages m x.beside.goes in
         let before = over_before setting s behind (sound_of core image places nestings setting (ranges_of s) x.uniting s x.nodes printed x.stages m x.beside.goes) in
         let beside = stands_same core image places nestings setting (ranges_of s) spaces x.uniting s x.nodes printed x.stages m before x.beside in
         ⊎_elim
@@ -230,11 +231,11 @@ module _ (core : List CoreOp) (image : Image) (places : Places) (nestings : Nest
         inl
         (record {
           round = round.0;
-          singles = singles_by core image places nestings setting spaces x.uniting s x.nodes printed x.stages m x.beside.goes;
+          singles = ones;
           possible = round.1;
           further = λ lawful'.
               let y = always.further schedule x.uniting x.nodes printed x.stages m lawful single beside running g lawful' in
-              let after = always.stay schedule x.stages lawful single round.1 lawful' in
+              let after = always.stay schedule x.stages lawful single ones round.1 lawful' in
               let control' = (cycle m).shared.control in
               let begun' = (cycle m).begun in (
                 record {

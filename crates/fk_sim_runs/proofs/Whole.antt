@@ -9,7 +9,7 @@ use Rattle.fk_core.specs.Next.{Position, next}
 use Rattle.fk_lockstep_tree.specs.Runs.{AreSingle}
 use Rattle.fk_image.specs.declared.Image.{Image}
 use Rattle.fk_machine.specs.Cycle.{Machine, is_running, cycle}
-use Rattle.fk_sim_match.specs.Stage.{Stage, counts_for}
+use Rattle.fk_sim_match.specs.Stage.{Stage, counts_for, AllDoOne}
 use Rattle.fk_sim_block.specs.Stands.{Places}
 use Rattle.fk_sim_rounds.specs.Follows.{IsInput}
 use Rattle.fk_sim_block.specs.Node.{Nestings}
@@ -129,10 +129,10 @@ module _ (runs_reach : RunsReach) (runs_reach_rounds : RunsReachRounds) (core : 
 
   -- the states before and behind the last round
   both : (schedule : Schedule) (stages : List Stage) → ArePossible (next core) setting (schedule ++ counts_for stages ∷ []) first → AreSingle schedule
-      → is_possible (next core) setting (counts_for stages) (state schedule) ≡ true → AreReached core setting (state schedule) stages nestings
-  both schedule stages all single possible =
+      → AllDoOne stages → is_possible (next core) setting (counts_for stages) (state schedule) ≡ true → AreReached core setting (state schedule) stages nestings
+  both schedule stages all single ones possible =
       let are = runs_reach_rounds core nestings main carries.tree image.globals.items firsts input p schedule stages some
-      (reaching.given runs_reach core main firsts places nestings cycles image carries input p is_input some few) all single possible in
+      (reaching.given runs_reach core main firsts places nestings cycles image carries input p is_input some few) all single ones possible in
       record { before = are.0; after = are.1 }
 
   pub always : AlwaysGoesFurther core image places nestings setting first
@@ -142,12 +142,14 @@ module _ (runs_reach : RunsReach) (runs_reach_rounds : RunsReachRounds) (core : 
         (reaching.reached runs_reach core main firsts places nestings cycles image carries input p is_input some few schedule lawful.possible single none) kind at next_is;
     further = λ schedule uniting nodes printed stages m lawful single stands running r lawful'.
         let s = state schedule in
-        let possible = possible_of (spaces_in_cycle core setting s stages) uniting s nodes printed stages m r in
-        further s nodes printed stages m (both schedule stages lawful'.possible single possible) running uniting stands r;
-    stay = λ schedule stages lawful single possible lawful'.
+        let spaces = spaces_in_cycle core setting s stages in
+        let possible = possible_of spaces uniting s nodes printed stages m r in
+        let ones = singles_by core image places nestings setting spaces uniting s nodes printed stages m stands.goes in
+        further s nodes printed stages m (both schedule stages lawful'.possible single ones possible) running uniting stands r;
+    stay = λ schedule stages lawful single ones possible lawful'.
         let s = state schedule in
-        let are = both schedule stages lawful'.possible single possible in
-        over_behind core nestings main setting stages s carries.tree are.before are.after possible;
+        let are = both schedule stages lawful'.possible single ones possible in
+        over_behind core nestings main setting stages s carries.tree are.before are.after ones possible;
   }
 
 pub machines_follow_trees : RunsReach → RunsReachRounds → MachinesFollowTrees

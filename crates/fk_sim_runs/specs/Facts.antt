@@ -50,7 +50,7 @@ ReachedRangesStay =
     (s : State Position) (g : ℕ)
     → let behind = result (next core) setting (counts_for stages) s in
     IsOfTree core nestings main → IsReached core nestings setting s
-    → IsReached core nestings setting behind
+    → IsReached core nestings setting behind → AllDoOne stages
     → is_possible (next core) setting (counts_for stages) s ≡ true
     → g < s.tree.given → behind.tree.nodes g ≢ None
     → ranges_of behind g ≡ ranges_of s g
