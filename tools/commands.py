@@ -239,6 +239,14 @@ NO_COMMAND = [
     ["build", "sums.f95"],
     ["list"],
     ["list", "atomic.image", "more"],
+    ["selftest"],
+    ["selftest", "0"],
+    ["selftest", "501"],
+    ["selftest", "+1"],
+    ["selftest", "-1"],
+    ["selftest", ""],
+    ["selftest", "6", "6"],
+    ["selftest", "6", "--harts", "64"],
     ["elf", "halt.image"],
     ["unelf", "halt.elf", "more", "-o", "none.image"],
     ["elf", "halt.image", "--harts", "1", "-o", "none.elf"],
@@ -741,6 +749,36 @@ ROWS += [
     Row(trace("absent.f95"), 3, b"", r"read fault\n"),
     Row(trace("nothing.f95"), 4, b"", "", out_to="/dev/full"),
     Row(trace("nothing.f95", harts=1025), 2, b"", r"refused command line\n"),
+]
+
+
+def added(number):
+    """What the statement of this number in a self-test adds to its word of `c`, for 64 processors."""
+    ranks, parts = range(64), number % 5 + 1
+    return [
+        64 * (number % 9 + 1),
+        sum(1 + rank % 2 for rank in ranks),
+        sum(rank % (number % 7 + 1) for rank in ranks),
+        sum(len(ranks[part::parts]) ** 2 for part in range(parts)),
+        64 * (number % 9 + 1),
+        number % 9 + 1,
+    ][number % 6]
+
+
+def selftest_line(statements):
+    """The line of a self-test."""
+    words = [sum(added(number) for number in range(1, statements + 1) if number % 8 == word) for word in range(8)]
+    return ("c = " + " ".join(map(str, words)) + "\n").encode()
+
+
+ROWS += [
+    *[Row(["selftest", str(statements)], 0, selftest_line(statements), FINISHED) for statements in (1, 6, 50, 500)],
+    Row(["selftest", "6"], 0, b"c = 0 96 63 1024 320 6 448 0\n", FINISHED),
+    Row(["selftest", "--", "006"], 0, selftest_line(6), FINISHED),
+    # it takes no input, also where there is one that can't be read
+    Row(["selftest", "6"], 0, selftest_line(6), FINISHED, given=b"x"),
+    Row(["selftest", "6"], 0, selftest_line(6), FINISHED, given_from="."),
+    Row(["selftest", "6"], 4, b"", "", out_to="/dev/full"),
 ]
 
 

@@ -11,9 +11,10 @@ Usage:
   fork95 unelf FILE -o IMAGE                           make the image of such a file
   fork95 audit FILE --harts P --cycles N               compile, run, and tell which PRAM the run needed
   fork95 trace FILE --harts P --cycles N               compile, run, and tell who does what when
+  fork95 selftest COUNT                                compile and run a generated text of so many statements
   fork95 explain RULE|NAME                             explain a rule (1 to 40) or the name in a report
 
-P is 1 to 1024, N is 0 to 4294967295. Give no input by </dev/null.
+P is 1 to 1024, N is 0 to 4294967295, COUNT is 1 to 500. Give no input by </dev/null.
 The first call proves and builds the program. docs/COMMANDS.md has all options, statuses and reports.
 END
 }
@@ -34,6 +35,7 @@ explain() {
 # The file that the command's words name.
 file_of() {
     local word takes=
+    if [ "$1" = selftest ]; then return; fi
     shift
     while [ $# -gt 0 ]; do
         word=$1
@@ -108,6 +110,7 @@ help_with_words() {
                 [[ " $* " == *" $word"[\ =]* ]] || echo "$1 needs $word N."
             done ;;
         build | elf | unelf) [[ " $* " == *" -o"* ]] || echo "$1 needs -o and the name of a file." ;;
+        selftest) echo "selftest needs a number from 1 to 500, and nothing else." ;;
         list) ;;
         *) echo "${1-} is no command." ;;
     esac

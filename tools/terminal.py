@@ -40,6 +40,7 @@ ON_TERMINAL = [
     (["run", "good.f95", "--harts", "1"], 2, ["refused command line", "--cycles", "Usage"]),
     (["audit", "good.f95", "--harts", "1"], 2, ["refused command line", "audit needs --cycles", "Usage"]),
     (["fly"], 2, ["refused command line", "fly is no command", "fork95 explain"]),
+    (["selftest", "501"], 2, ["refused command line", "selftest needs a number from 1 to 500", "Usage"]),
     (["unelf", "good.f95"], 2, ["refused command line", "unelf needs -o", "Usage"]),
     (["unelf", "good.f95", "-o", "none.image"], 12, ["refused 28 ElfShort 31 148"]),
     (["run", "good.f95", *RUN], 0, ["7", "finished after"]),
@@ -59,6 +60,7 @@ PLAIN = [
     (["explain", "41"], 2, "", r"fork95: explain .*\n"),
     (["run", "undeclared.f95", *RUN], 1, "", r"refused 8 Rule 1 at 2:10\n"),
     (["run", "good.f95", *RUN], 0, r"7\n", r"finished after \d+ cycles\n"),
+    (["selftest", "6"], 0, r"c = 0 96 63 1024 320 6 448 0\n", r"finished after \d+ cycles\n"),
 ]
 
 

@@ -3,9 +3,11 @@
 
     python3 tools/traces.py [PROGRAM]
 
-PROGRAM is ./fork95 where it isn't given. Each of the runs below is traced by the program. Its image
-is also run by the machine in this file, which is written from docs/MACHINE.md and the RISC-V
-manual, and shares no code with the program. The last line counts what passed.
+PROGRAM is ./fork95 where it isn't given. Each of the runs and examples below is traced by the
+program. Its image is also run by the machine in this file, which is written from docs/MACHINE.md and
+the RISC-V manual, and shares no code with the program. The events of some texts, hart by hart, are
+compared with those that docs/LANGUAGE.md gives to their operations. The last line counts what
+passed.
 
     python3 tools/traces.py --image IMAGE --harts P --cycles N
 
@@ -35,6 +37,53 @@ RUNS = [
     ("sh int c; void main(void) { start { mpadd(&c, $); while (c < 100) mpadd(&c, 9); } }", 7, 5000),
     ("sh int x; void main(void) { start { pr int *p = &x; farm { if ($ == 5) p = 0; } x = *p; } }", 8, 9999),
     ("void main(void) { while (__PROC_NR__ == 1) ; putint(__PROC_NR__); }", 3, 777),
+    ("void main(void) { start { fork (26215; @=0; $=0) seq putint(1); } }", 2, 9999),
+]
+
+# Examples, the number of harts, and the input.
+EXAMPLES = [
+    ("if_in_lockstep", 8, ""),
+    ("who_is_where", 6, ""),
+    ("sync_recursion", 8, ""),
+    ("farm", 3, "12 7 30 16"),
+    ("odd_even_sort", 6, "5 2 9 1 4 4"),
+    ("list_ranking", 16, ""),
+]
+MOST_CYCLES = 20_000
+
+# Texts with the events of each hart, by the operations that docs/LANGUAGE.md gives to the forms.
+EVENTS = [
+    ("sh int x; void main(void) { start (2) { x = $; } x = 5; }", [
+        "split end resume", "split end resume", "split resume",
+    ]),
+    ("void main(void) { start { if ($) putint(1); } }", [
+        "split split resume end resume", "split split end resume end resume",
+    ]),
+    ("void main(void) { start { if ($ < 1) putint(1); else putint(2); } }",
+        3 * ["split split end resume end resume"]),
+    ("void main(void) { start { putint($ ? 7 : 8); } }",
+        2 * ["split split end resume end resume"]),
+    ("void main(void) { start { putint($ && 1); putint($ || 0); } }", [
+        "split split resume split end resume end resume",
+        "split split end resume split resume end resume",
+    ]),
+    ("void main(void) { start { int i = $; while (i > 0) i = i - 1; } }", [
+        "split split shrink resume end resume",
+        "split split shrink shrink resume end resume",
+        "split split shrink shrink shrink resume end resume",
+    ]),
+    ("sh int n; void main(void) { start { n = 2; if (n) putint(1); farm { barrier; } seq putint(2); } }",
+        2 * ["split agree meet meet meet end resume"]),
+    ("void main(void) { start { fork (2; @=$%2; $=$/2) putint(@); } }",
+        4 * ["split agree split end resume end resume"]),
+    ("void main(void) { start { fork (1; @=$) if ($ < 0) putint(1); } }", [
+        "split agree split split resume end resume end resume",
+        "split agree split resume end resume",
+    ]),
+    ("void main(void) { start { fork (0; @=0) putint(1); } }",
+        2 * ["split agree split resume end resume"]),
+    ("sync int f(sh int a) { return a; } void main(void) { start { putint(f($)); } barrier; }",
+        2 * ["split agree end resume meet"]),
 ]
 
 
@@ -79,10 +128,10 @@ class Hart:
 class Machine:
     """Memory as tables of words by address, with 0 for those that are not there."""
 
-    def __init__(self, image, harts):
-        self.image = image
+    def __init__(self, image, harts, numbers):
+        self.image, self.count = image, len(numbers)
         self.harts = [Hart() for _ in range(harts)]
-        self.memory = {DATA + 4 * i: w for i, w in enumerate(image.words)}
+        self.memory = {DATA + 4 * i: w & MASK for i, w in enumerate([*image.words, *numbers])}
         self.cycles = 0
         self.reserved = {}
         self.stand = "running"
@@ -122,7 +171,7 @@ class Machine:
         table = self.table(hart, address)
         if table is not None:
             return table.get(address & ~3, 0) >> 8 * (address % 4) & (1 << 8 * size) - 1
-        told = {16: self.cycles, 20: number, 24: len(self.harts), 28: 0}
+        told = {16: self.cycles, 20: number, 24: len(self.harts), 28: self.count}
         if size != 4 or address - DEVICES not in told:
             raise Trap
         return told[address - DEVICES]
@@ -272,9 +321,9 @@ def ranges(values):
     return found
 
 
-def trace(image, harts, bound):
+def trace(image, harts, bound, numbers=()):
     """The lines of the trace of an image, and the machine at the end."""
-    machine = Machine(image, harts)
+    machine = Machine(image, harts, numbers)
     lines = ["fork95 trace 1", f"harts {harts}"]
     while machine.stand == "running" and machine.cycles < bound:
         ran = machine.cycle()
@@ -293,27 +342,62 @@ def trace(image, harts, bound):
     return "\n".join(lines) + "\n", machine
 
 
-def call(program, *words):
+def call(program, *words, given=""):
     return subprocess.run(
-        [program, *words], stdin=subprocess.DEVNULL, capture_output=True, timeout=SECONDS, check=False
+        [program, *words], input=given.encode(), capture_output=True, timeout=SECONDS, check=False
     )
 
 
+def traced(program, source, harts, bound, given=""):
+    """The trace of a file by the program."""
+    size = ("--harts", str(harts), "--cycles", str(bound))
+    return call(program, "trace", str(source), *size, given=given).stdout.decode("ascii", "replace")
+
+
+def agrees(program, source, image, harts, bound, given=""):
+    """Whether the trace of a file is that of its image by the machine of this file."""
+    call(program, "build", str(source), "-o", str(image))
+    numbers = [int(word) for word in given.split()]
+    expected, _ = trace(Image(image.read_bytes()), harts, bound, numbers)
+    return traced(program, source, harts, bound, given) == expected
+
+
+def events_of(text, harts):
+    """The events of each hart of a trace, in their order."""
+    events = [[] for _ in range(harts)]
+    for line in text.splitlines():
+        words = line.split()
+        for span in words[3:] if words[0] == "g" else ():
+            first, last = map(int, span.split("-"))
+            for hart in range(first, last + 1):
+                events[hart].append(words[2])
+    return [" ".join(names) for names in events]
+
+
 def compare(program):
-    """Traces each run twice. Gives the numbers of those that agree and that don't."""
-    passed = failed = 0
+    """Traces each run twice, and reads events. Counts what is as expected and what isn't."""
+    failed, seen = [], set()
     with tempfile.TemporaryDirectory() as folder:
         source, image = Path(folder) / "text.f95", Path(folder) / "text.image"
         for text, harts, bound in RUNS:
             source.write_text(text, encoding="ascii")
-            size = ("--harts", str(harts), "--cycles", str(bound))
-            told = call(program, "trace", str(source), *size).stdout.decode("ascii", "replace")
-            call(program, "build", str(source), "-o", str(image))
-            expected, _ = trace(Image(image.read_bytes()), harts, bound)
-            passed, failed = passed + (told == expected), failed + (told != expected)
+            if not agrees(program, source, image, harts, bound):
+                failed.append(text)
+        for name, harts, given in EXAMPLES:
+            example = TOP / "examples" / f"{name}.f95"
+            if not agrees(program, example, image, harts, MOST_CYCLES, given):
+                failed.append(name)
+        for text, expected in EVENTS:
+            source.write_text(text, encoding="ascii")
+            told = events_of(traced(program, source, len(expected), 9999), len(expected))
+            seen.update(" ".join(told).split())
             if told != expected:
-                print("failed:", text)
-    print(f"{passed} passed, {failed} failed")
+                failed.append(f"{text}: {told}")
+    failed += [f"no {name} was seen" for name in NAMES if name not in seen]
+    for text in failed:
+        print("failed:", text)
+    count = len(RUNS) + len(EXAMPLES) + len(EVENTS) + len(NAMES)
+    print(f"{count - len(failed)} passed, {len(failed)} failed")
     return 1 if failed else 0
 
 

@@ -36,22 +36,24 @@ use Rattle.fk_core_liveness.specs.declared.set.Set.{Set}
 use Rattle.fk_core_liveness.specs.Live.{IsLeast, words_in}
 use Rattle.fk_gen.specs.declared.placed.Levels.{Levels}
 use Rattle.fk_lower_laws.specs.Certain.{HasFrames}
-use Rattle.fk_gen_list.specs.Generable.{IsGenerable, HasCode, places_in}
+use Rattle.fk_gen_list.specs.Generable.{IsGenerable, GivesWholeCode, HasWholeCode, HasCode, places_in}
 use Rattle.fk_compile_text.proofs.Parts.{kept as passed}
 use Rattle.fk_compile.specs.Lists.{HasListOf, IsGrouped}
 use Rattle.fk_compile.specs.Faithful.{in_image, in_table, words_by}
+use Rattle.fk_compile.specs.Events.{TellsEventsOf}
 use Rattle.fk_compile.proofs.Rooms.{all_levels, shrinks_deep, parts_deep}
 use Rattle.fk_compile.proofs.Limits.{sites_fit, commits_fit, commits_rise}
 use Rattle.fk_compile.proofs.Theorem.{IsCompiled}
 
--- the code of a list, of which the parts of a layout are handed over
-pub gives_the_law : (core ops : List CoreOp) (kept kept' : List Set) (saved saved' : List Levels) (main : ℕ) (firsts given : List ℕ) (count globals : ℕ) (code : Code) → ops ≡ core → kept' ≡ kept
-    → saved' ≡ saved → given ≡ firsts → globals ≡ count → GivesGroupLaw ops kept' saved' main given globals code → GivesGroupLaw core kept saved main firsts count code
-gives_the_law core ops kept kept' saved saved' main firsts given count globals code same_ops same_kept same_saved same_firsts same_count law =
-    let of_core = subst (λ (list : List CoreOp). GivesGroupLaw list kept' saved' main given globals code) same_ops law in
-    let with_kept = subst (λ (sets : List Set). GivesGroupLaw core sets saved' main given globals code) same_kept of_core in
-    let with_saved = subst (λ (levels : List Levels). GivesGroupLaw core kept levels main given globals code) same_saved with_kept in
-    subst (λ (n : ℕ). GivesGroupLaw core kept saved main firsts n code) same_count (subst (λ (ws : List ℕ). GivesGroupLaw core kept saved main ws globals code) same_firsts with_saved)
+-- what is so of the code of a list, of which the parts of a layout are handed over
+pub gives_still : (Gives : List CoreOp → List Set → List Levels → (main : ℕ) → List ℕ → (globals : ℕ) → Code → Type 0) (core ops : List CoreOp) (kept kept' : List Set) (saved saved' : List Levels) (main : ℕ)
+    (firsts given : List ℕ) (count globals : ℕ) (code : Code) → ops ≡ core → kept' ≡ kept → saved' ≡ saved → given ≡ firsts → globals ≡ count
+    → Gives ops kept' saved' main given globals code → Gives core kept saved main firsts count code
+gives_still Gives core ops kept kept' saved saved' main firsts given count globals code same_ops same_kept same_saved same_firsts same_count gives =
+    let of_core = subst (λ (list : List CoreOp). Gives list kept' saved' main given globals code) same_ops gives in
+    let with_kept = subst (λ (sets : List Set). Gives core sets saved' main given globals code) same_kept of_core in
+    let with_saved = subst (λ (levels : List Levels). Gives core kept levels main given globals code) same_saved with_kept in
+    subst (λ (n : ℕ). Gives core kept saved main firsts n code) same_count (subst (λ (ws : List ℕ). Gives core kept saved main ws globals code) same_firsts with_saved)
 
 -- a list of which code is made
 pub is_generable : (core ops : List CoreOp) (kept kept' : List Set) (saved saved' : List Levels) (main : ℕ) (firsts given : List ℕ) → ops ≡ core → kept' ≡ kept → saved' ≡ saved → given ≡ firsts
@@ -91,6 +93,7 @@ module _ (program : ProgramTree) (facts : Facts) (layout : Layout) (laid : IsLay
       pub least : IsLeast core (words_in kept)
       pub levels : AreLevels core saved
       pub law : GivesGroupLaw core kept saved main layout.firsts.items (vec_len layout.words) code
+      pub whole : GivesWholeCode core kept saved main layout.firsts.items (vec_len layout.words) code
       pub table : IsCommitTable (vec_len code.words) code.commits.items
       pub some : 1 ≤ vec_len code.words
       pub few : vec_len code.words ≤ 262144
@@ -155,4 +158,19 @@ module _ (program : ProgramTree) (facts : Facts) (layout : Layout) (laid : IsLay
         };
         sites_are = sites_are;
         globals_are = ap (λ v. v.items) p.has_globals ∙ laid.words;
+      }
+
+      pub tells_events : TellsEventsOf program facts image
+      tells_events = let all = p.whole image p.held.frames has p.held.of_file in record {
+        core = core;
+        main = main;
+        list = p.list;
+        kept = kept;
+        saved = saved;
+        bound = all.1.0;
+        places = places_in core all.0 p.held.frames;
+        code =
+            subst (λ (firsts : List ℕ). HasWholeCode core kept saved image all.1.0 (places_in core all.0 p.held.frames) firsts main) laid.firsts
+            all.1.1.0;
+        events = all.1.1.1;
       }

@@ -5,4 +5,5 @@ pub mod Trees
 pub mod ListLaws
 pub mod Lists
 pub mod Faithful
+pub mod Events
 pub mod Laws

@@ -5,6 +5,7 @@ ghost use Rattle.fk_layout_globals.specs.View.{row_of};
 ghost use Rattle.fk_compile_text.specs.Refusal.{IsRefusedText};
 ghost use Rattle.fk_compile_text.specs.Text.{HasRows};
 ghost use Rattle.fk_compile.specs.Faithful.{IsFaithful};
+ghost use Rattle.fk_compile.specs.Events.{TellsEvents};
 
 use crate::image::{are_words, site_table};
 use crate::laws::steps_find_values;
@@ -25,16 +26,18 @@ pub struct Compiled<'a> {
     pub rows: Vec<GlobalRow<'a>>,
 }
 
-/// The image of a text, and its shared variables of file scope. Every run of the image, of up to
-/// 2^32 - 1 cycles, with 1 to 1,024 harts and an input of at most 65,536 words that leaves it
-/// within 524,288 words of globals and input, is a run of the text's program by a lawful schedule:
-/// it prints the same bytes, and shared data and its status are the same, a fault at a site of the
-/// text included.
+/// The image of a text, and its shared variables of file scope. Every run of the image is a run of
+/// the text's program by a lawful schedule: it prints the same bytes, and shared data and its status
+/// are the same, a fault at a site of the text included. It never traps. This holds of runs of up to
+/// 2^32 - 1 cycles, with 1 to 1,024 harts and an input of at most 65,536 words, which with the
+/// globals are at most 524,288. Each entry of the image's commit table tells the event of the
+/// operation at its place, as a trace has it.
 ///
 /// # Errors
-/// Those of `built_text`, and of a text that is built `Memory` alone.
+/// Those of `built_text`, and of a text that keeps all rules and has a layout `Memory` alone.
 pub fn compile<'a>(alloc: Global, source: &'a [u8]) -> Result<Compiled<'a>, Refusal>
     ensures faithful { IfOk result (λ compiled. IsFaithful source.now compiled.image) }
+    ensures events { IfOk result (λ compiled. TellsEvents source.now compiled.image) }
     ensures rows { IfOk result (λ compiled. HasRows source.now (map row_of compiled.rows.items)) }
     ensures refused { IfErr result (IsRefusedText source.now) }
 {

@@ -1,9 +1,9 @@
 -- The parts of a call that are open, as its nests have them, tell which levels a `fork` left.
-use Rattle.std.proofs.Common.{◌≡◌, ◌⊎◌, ℕ, zero, suc, ◌-◌, ◌<◌, ◌≤◌, Bool, true, false, List, [], ◌∷◌, length, Option, inl, inr, refl, sym, ap, ◌∙◌, arith, if◌then◌else◌}
+use Rattle.std.proofs.Common.{◌≡◌, ◌⊎◌, ℕ, zero, suc, ◌-◌, ◌<◌, ◌≤◌, Bool, true, false, List, [], ◌∷◌, length, inl, inr, refl, sym, ap, ◌∙◌, arith, if◌then◌else◌}
 use Rattle.std.specs.Prelude.{◌==◌}
 use Rattle.std.proofs.lemmas.Bool.{cases_lt, eq-eqb, ne_eqb}
 use Rattle.fk_lockstep_frames.specs.Nests.{Nest, OfFunction, OfPart, nesting, levels_of, left_by_fork, forks_of}
-use Rattle.fk_core_levels.specs.Forks.{OpenPart, fork_at}
+use Rattle.fk_core_levels.specs.Forks.{fork_at}
 use Rattle.fk_core_counting.proofs.Ways.{open_by, around_by, open_in}
 
 no_level : (main : Bool) → 0 ≡ 0 - (if main then 1 else 0)

@@ -10,7 +10,6 @@ use Rattle.fk_meaning_operation.specs.declared.operation.Operation.{Operation}
 use Rattle.fk_core.specs.declared.op.CoreOp.{CoreOp}
 use Rattle.fk_core_levels.specs.Count.{read, counts, nests}
 use Rattle.fk_core_levels.specs.Forks.{fork_at, fork_in, level_forks}
-use Rattle.fk_core_flat.specs.Items.{Item, Has}
 use Rattle.fk_core_flat.specs.Flat.{extent, flat}
 use Rattle.fk_core_flat.specs.Shape.{is_closed}
 use Rattle.fk_core_flat.proofs.Lengths.{flat_length}
@@ -25,7 +24,6 @@ use Rattle.fk_core_typing.proofs.Listed.{state, noted, has_below}
 use Rattle.fk_core_typing.proofs.Valued.{values, values_lawful, all_judged, at}
 use Rattle.fk_core_typing.proofs.Knowing.{typed_lists_know, frames_of_states}
 use Rattle.fk_lockstep_frames.specs.Nests.{Nest, nesting, levels_of, forks_of}
-use Rattle.fk_lockstep_structure.specs.Placed.{is_main}
 use Rattle.fk_core_counting.specs.Laws.{IsRun, TypedListsTellLevels}
 use Rattle.fk_core_counting.proofs.Folding.{Parts, none, Fold, fold, folded, stepped, counted, nested, opened, told_by}
 use Rattle.fk_core_counting.proofs.Ways.{levels_at, forks_at, parts_at, Says, Stand, stand_at, stand_begun}

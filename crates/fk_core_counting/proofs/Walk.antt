@@ -6,7 +6,7 @@ use Rattle.fk_meaning_operation.specs.declared.operation.Operation.TheVariants a
 use Rattle.fk_meaning_operation.specs.declared.operation.SplitKind.TheVariants as sk
 use Rattle.fk_meaning_forms.specs.Code.{Code, done, perform, choose, while, until, turn, again, quit, break, continue, call, ends}
 use Rattle.fk_meaning.specs.Shape as sh
-use Rattle.fk_meaning.specs.Shape.{Exits, of_way, of_test, of_turn, splits, has_two_parts, waits, is_quit, is_chosen, ends_part, Either, Shape}
+use Rattle.fk_meaning.specs.Shape.{Exits, of_way, of_test, of_turn, splits, has_two_parts, waits, is_chosen, ends_part, Either, Shape}
 use Rattle.fk_meaning.specs.Behind.{opens_body, is_shrink}
 use Rattle.fk_meaning.proofs.Spine.{untrue}
 use Rattle.fk_core.specs.declared.op.CoreOp.{CoreOp}
@@ -30,7 +30,7 @@ use Rattle.fk_lockstep_structure.specs.Placed.{Who, OfBody, inner, who_in, calle
 use Rattle.fk_core_levels.specs.Count.{read, enters}
 use Rattle.fk_core_counting.specs.Laws.{under, takes_in_part, ShrinksIn, FramesIn}
 use Rattle.fk_core_counting.proofs.Folding.{Parts, none, at, past, worded, Fold, fold, step, told_by, after_operation, told_of_operation, none_read, after_jump, told_of_jump, opening_goes_on}
-use Rattle.fk_core_counting.proofs.Ways.{parts_at, Stand, stand_at, stand_inner, stand_begun, Enters, Says, says_straight, says_onto, says_into, says_out, straight_on, quit_on, says_quit, out_on, here_of, resume_of, after_straight, outside_parts, straight_worded, after_onto, after_quit, no_enter, either_here, out_here, into_here, Ways, ways}
+use Rattle.fk_core_counting.proofs.Ways.{parts_at, Stand, stand_at, stand_inner, stand_begun, Enters, Says, says_straight, says_onto, says_into, says_out, straight_on, quit_on, says_quit, out_on, here_of, resume_of, after_straight, outside_parts, straight_worded, after_onto, after_quit, no_enter, either_here, out_here, into_here, ways}
 
 -- the places of states, and how they change
 pub record KeepsPlaces (sys : System) (place : sys.State → Place) (place_of : ℕ → FunctionKind) : Type 0 where

@@ -14,7 +14,7 @@ use Rattle.fk_core_liveness.specs.Frames.{is_main_place}
 use Rattle.fk_core_typing.specs.Values.{Place, with_frame, entered, place_behind, MayBeIn}
 use Rattle.fk_lockstep_frames.specs.Nests.{Nest, OfFunction, OfPart, nesting, levels_of, left_by_fork, words_in_part, MayTake}
 use Rattle.fk_lockstep_structure.specs.Placed.{Who, OfGroup, OfBody, OfMain, is_main, inner, who_in, may_perform, may_choose}
-use Rattle.fk_core_levels.specs.Count.{here, after, inside, enters}
+use Rattle.fk_core_levels.specs.Count.{here, enters}
 use Rattle.fk_core_levels.specs.Forks.{OpenPart, Parts as OpenParts, taken, left_by}
 use Rattle.fk_core_counting.specs.Laws.{under, takes_in_part}
 use Rattle.fk_core_counting.proofs.Folding.{Parts, parts, none, at, past, worded}

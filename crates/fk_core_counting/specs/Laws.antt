@@ -1,6 +1,6 @@
 -- The levels that a list tells in its order.
-use Rattle.std.specs.Prelude.{◌≡◌, ℕ, suc, ◌<◌, ◌≤◌, Bool, true, false, List, length, slice_get, Option}
-use Rattle.std.specs.Prelude.{Some, None}
+use Rattle.std.specs.Prelude.{◌≡◌, ℕ, suc, ◌<◌, ◌≤◌, Bool, true, false, List, length, slice_get}
+use Rattle.std.specs.Prelude.{Option, Some, None}
 use Rattle.fk_meaning_operation.specs.declared.operation.SplitKind.{SplitKind}
 use Rattle.fk_meaning_operation.specs.declared.operation.SplitKind.TheVariants.{IfElse}
 use Rattle.fk_meaning_operation.specs.declared.operation.Operation.{Operation}
@@ -68,8 +68,8 @@ FramesIn b (continue rest) = FramesIn false rest
 FramesIn b (call n op f opening rest) = FramesIn false rest
 FramesIn b (ends n op rest) = FramesIn false rest
 
--- A function is run by such processors, and only `main` by those of `main`. Outside of its splits no
--- loop shrinks, and no frame is taken but the function's own.
+-- A function is run by such processors, and only `main` by those of `main`. Outside of its splits
+-- no loop shrinks, and no frame is taken but the function's own.
 pub record IsRun (may_call : (in_group : Bool) → (function : ℕ) → Bool)
     (kind : FunctionKind) (code : Code ℕ) : Type 0 where
   pub who : Who
@@ -78,9 +78,9 @@ pub record IsRun (may_call : (in_group : Bool) → (function : ℕ) → Bool)
   pub shrinks : ShrinksIn false code
   pub frames : FramesIn false code
 
--- The list counts the levels and the parts that the nests of each index tell, and tells which levels
--- a `fork` left. In `main` only the group of a `start` splits, and a frame has a level where a loop
--- shrinks.
+-- The list counts the levels and the parts that the nests of each index tell, and tells which
+-- levels a `fork` left. In `main` only the group of a `start` splits, and a frame has a level where
+-- a loop shrinks.
 pub record TellsLevels (core : List CoreOp) (main : ℕ) (local : HasLocalFrames core main)
     : Type 0 where
   pub levels : (i : ℕ) → i < length core

@@ -1,7 +1,7 @@
 -- How the group around each index of a flat list was left, where a `fork` divided it: its members
 -- have taken a frame of so many words in the part around, and give it back at the end of theirs.
-use Rattle.std.specs.Prelude.{ℕ, zero, suc, ◌==◌, Bool, false, List, [], ◌∷◌, map, length, slice_get}
-use Rattle.std.specs.Prelude.{Option, Some, None, if◌then◌else◌}
+use Rattle.std.specs.Prelude.{ℕ, zero, suc, ◌==◌, Bool, false, List, [], ◌∷◌, map, length}
+use Rattle.std.specs.Prelude.{slice_get, Option, Some, None, if◌then◌else◌}
 use Rattle.fk_meaning_operation.specs.declared.operation.SplitKind.{SplitKind}
 use Rattle.fk_meaning_operation.specs.declared.operation.SplitKind.TheVariants.{Fork}
 use Rattle.fk_meaning_operation.specs.declared.operation.Operation.{Operation}

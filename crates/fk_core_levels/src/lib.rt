@@ -1,5 +1,5 @@
 //! The levels of groups in the frames of calls, at each index of a flat list: how many there are,
-//! and after which word they begin.
+//! after which word they begin, and whether a `fork` left the last of them.
 #![tactic(auto)]
 
 mod behind;

@@ -53,9 +53,9 @@ fn told(alloc: Global, ops: &[CoreOp]) -> Result<Vec<Levels>, AllocError>
 }
 
 /// The levels of groups in the frame of the running call, at each index of a flat list: as many as
-/// parts of the call are open there, after the words of the call. A sweep takes time linear in the
-/// list and no memory, and there are at most two more sweeps than jumps. Fails only for want of
-/// memory.
+/// parts of the call are open there, after the words of the call, and whether a `fork` left the
+/// last of them. A sweep takes time linear in the list and no memory, and there are at most two
+/// more sweeps than jumps. Fails only for want of memory.
 pub fn levels(alloc: Global, ops: &[CoreOp]) -> Result<Vec<Levels>, AllocError>
     requires small { length ops.now < 2 ^ 31 }
     ensures { IfOk result (λ saved. l.AreLevels ops.now saved.items) }

@@ -1,11 +1,11 @@
 -- Well typed code, from its beginning on.
 --
 -- Each turn of a loop begins with the values with which the loop began, whatever it does in
--- between. Both branches of a choice come together with the same values. After a choice a call is in
--- the parts in which it was before. The same holds after a loop, but nothing follows a private loop
--- in its part. A call takes its arguments, and gives a result or none. The code after a `break`, a
--- `continue` or an end of the function is never reached. It is typed as if the code before it went
--- on into it.
+-- between. Both branches of a choice come together with the same values. After a choice a call is
+-- in the parts in which it was before. The same holds after a loop, but nothing follows a private
+-- loop in its part. A call takes its arguments, and gives a result or none. The code after a
+-- `break`, a `continue` or an end of the function is never reached. It is typed as if the code
+-- before it went on into it.
 use Rattle.std.specs.Prelude.{◌≡◌, ◌⊎◌, ℕ, Bool, true, false, length, Option, Some, None, is_some}
 use Rattle.fk_meaning_operation.specs.declared.operation.Operation.{Operation}
 use Rattle.fk_meaning_operation.specs.declared.operation.Operation.TheVariants.{Leave, Halt}

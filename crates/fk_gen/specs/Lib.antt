@@ -1,5 +1,6 @@
 pub mod Registers
 pub mod Lines
+pub mod Events
 pub mod Operands
 pub mod Levels
 pub mod Parts

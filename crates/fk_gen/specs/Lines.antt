@@ -1,6 +1,8 @@
 -- The lines of blocks, and what they are made of.
 use Rattle.std.specs.Prelude.{ℕ, ◌+◌, ◌-◌, ◌*◌, ◌/◌, ◌%◌, ◌^◌, ◌==◌, List, [], ◌∷◌, Bool, true}
 use Rattle.std.specs.Prelude.{false, Option, Some, None, IfSome, map}
+use Rattle.fk_image.specs.declared.event.Event.{Event}
+use Rattle.fk_image.specs.Events.{event_number}
 use Rattle.fk_isa.specs.declared.instruction.Instruction.{Instruction}
 use Rattle.fk_isa.specs.declared.instruction.Instruction.TheVariants.{Lui, Addi, Add}
 use Rattle.fk_isa.specs.Bits.{extended}
@@ -20,6 +22,15 @@ quiet i = plain (straight i)
 abbrev pub commits : Instruction → MarkedLine
 commits i = committing (straight i) 1
 
+-- The number of an event in a commit table, 0 for none.
+abbrev pub number_in : Option Event → ℕ
+number_in None = 0
+number_in (Some event) = event_number event
+
+-- The line of an instruction that does an operation that is an event.
+abbrev pub commits_as : Event → Instruction → MarkedLine
+commits_as event i = committing (straight i) (1 + 256 * event_number event)
+
 -- Straight lines of which the first does the operation.
 abbrev pub first_commits : List Instruction → List MarkedLine
 first_commits [] = []
@@ -29,13 +40,13 @@ first_commits (i ∷ is) = commits i ∷ map quiet is
 abbrev pub goes_to : Instruction → (label : ℕ) → MarkedLine
 goes_to i label = plain (jump_to i label)
 
--- The commit of a line, by whether the line does an operation.
-abbrev pub commit_of : Bool → Option ℕ
-commit_of true = Some 1
-commit_of false = None
+-- The commit of a line, by whether the line does an operation, and which event that is.
+abbrev pub commit_of : Bool → Option Event → Option ℕ
+commit_of true event = Some (1 + 256 * number_in event)
+commit_of false event = None
 
 abbrev pub marked : BlockLine → MarkedLine
-marked b = record { line = b.line; commit = commit_of b.commits }
+marked b = record { line = b.line; commit = commit_of b.commits b.event }
 
 -- The fields of a line are in range, and it goes to a label only where its instruction is a jump.
 abbrev pub FitLine : MarkedLine → Type 0

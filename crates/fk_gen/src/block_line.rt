@@ -1,15 +1,17 @@
 //! Lines of blocks.
 
-ghost use Rattle.std.specs.Prelude.{◌≡◌, ◌+◌, ◌-◌, ◌^◌, ◌<◌, [], ◌∷◌, All, OnOk, OnErr, length};
+ghost use Rattle.std.specs.Prelude.{◌≡◌, ◌+◌, ◌-◌, ◌^◌, ◌<◌, ◌≤◌, [], ◌∷◌, All, OnOk, OnErr, length};
 ghost use Rattle.std.specs.Prelude.{map};
 ghost use Rattle.fk_asm.specs.Assembly.{AreFollowed};
 ghost use Rattle.fk_asm.specs.Block.{GoesToMade, HasBegun, with_block};
 ghost use Rattle.fk_isa.specs.Fits.{IsRegister};
-ghost use Rattle.fk_gen.specs.Lines.{marked, quiet, load_number, add_number, FitLine, FitLines};
+ghost use Rattle.fk_gen.specs.Lines.{marked, number_in, quiet, load_number, add_number};
+ghost use Rattle.fk_gen.specs.Lines.{FitLine, FitLines};
 
 use crate::numbers::{high_part, low_part};
 use crate::registers::{T0, ZERO};
 use fk_asm::{Assembler, Line};
+use fk_image::Event;
 use fk_isa::Instruction;
 use std::alloc::AllocError;
 
@@ -18,15 +20,21 @@ use std::alloc::AllocError;
 pub struct BlockLine {
     pub line: Line,
     pub commits: bool,
+    /// The event that the operation is, if it is one.
+    pub event: Option<Event>,
 }
 
 impl BlockLine {
-    ghost use Rattle.std.specs.Prelude.{◌≡◌, true, false};
+    ghost use Rattle.std.specs.Prelude.{◌≡◌, true, false, Some, None};
     ghost use Rattle.fk_asm.specs.Assembly.{straight, jump_to};
 
     /// An instruction that does no operation.
     pub fn quiet(instruction: Instruction) -> BlockLine
-        ensures { result ≡ record { line = straight instruction; commits = false } }
+        ensures { result ≡ record {
+          line = straight instruction;
+          commits = false;
+          event = None;
+        } }
     {
         BlockLine {
             line: Line {
@@ -34,12 +42,38 @@ impl BlockLine {
                 label: None,
             },
             commits: false,
+            event: None,
         }
     }
 
     /// The instruction that does the operation.
     pub fn commits(instruction: Instruction) -> BlockLine
-        ensures { result ≡ record { line = straight instruction; commits = true } }
+        ensures { result ≡ record {
+          line = straight instruction;
+          commits = true;
+          event = None;
+        } }
+    {
+        BlockLine::does(None, instruction)
+    }
+
+    /// The instruction that does the operation, which is an event.
+    pub fn commits_as(event: Event, instruction: Instruction) -> BlockLine
+        ensures { result ≡ record {
+          line = straight instruction;
+          commits = true;
+          event = Some event;
+        } }
+    {
+        BlockLine::does(Some(event), instruction)
+    }
+
+    fn does(event: Option<Event>, instruction: Instruction) -> BlockLine
+        ensures { result ≡ record {
+          line = straight instruction;
+          commits = true;
+          event = event;
+        } }
     {
         BlockLine {
             line: Line {
@@ -47,12 +81,17 @@ impl BlockLine {
                 label: None,
             },
             commits: true,
+            event,
         }
     }
 
     /// A branch or `jal` to a label, which does no operation.
     pub fn goes_to(instruction: Instruction, label: u32) -> BlockLine
-        ensures { result ≡ record { line = jump_to instruction label; commits = false } }
+        ensures { result ≡ record {
+          line = jump_to instruction label;
+          commits = false;
+          event = None;
+        } }
     {
         BlockLine {
             line: Line {
@@ -60,6 +99,7 @@ impl BlockLine {
                 label: Some(label),
             },
             commits: false,
+            event: None,
         }
     }
 }
@@ -80,6 +120,17 @@ pub fn emit_lines(into: &mut Assembler, lines: &[BlockLine]) -> Result<(), Alloc
     Ok(())
 }
 
+// The number of an event in a commit table, 0 for none.
+fn number_in(event: Option<Event>) -> u32
+    ensures number { result ≡ number_in event }
+    ensures few { result ≤ 6 }
+{
+    match event {
+        Some(event) => event.number(),
+        None => 0,
+    }
+}
+
 fn emit_line(into: &mut Assembler, line: BlockLine) -> Result<(), AllocError>
     requires fit { FitLine (marked line) }
     requires label { GoesToMade into.old.bound (marked line) }
@@ -90,7 +141,7 @@ fn emit_line(into: &mut Assembler, line: BlockLine) -> Result<(), AllocError>
     ensures begun { OnErr result (HasBegun (marked line ∷ []) into.old into.new) }
 {
     if line.commits {
-        into.commit(1, 0)?;
+        into.commit(1, number_in(line.event))?;
     }
     match line.line.label {
         Some(label) => into.jump(line.line.instruction, label),

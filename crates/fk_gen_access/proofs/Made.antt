@@ -1,5 +1,5 @@
 -- Lines that were made one by one are those of a block.
-use Rattle.std.proofs.Common.{◌≡◌, List, true, false, [], ◌∷◌, ◌++◌, map, ap, ◌∙◌, refl}
+use Rattle.std.proofs.Common.{◌≡◌, List, None, true, false, [], ◌∷◌, ◌++◌, map, ap, ◌∙◌, refl}
 use Rattle.fk_isa.specs.declared.instruction.Instruction.{Instruction}
 use Rattle.fk_asm.specs.Assembly.{straight}
 use Rattle.fk_gen.specs.declared.block_line.BlockLine.{BlockLine}
@@ -7,10 +7,10 @@ use Rattle.fk_gen.specs.Lines.{marked}
 use Rattle.fk_gen_access.specs.Blocks.{Straight}
 
 abbrev pub line_of : Instruction → BlockLine
-line_of i = record { line = straight i; commits = false }
+line_of i = record { line = straight i; commits = false; event = None }
 
 abbrev pub last_of : Instruction → BlockLine
-last_of i = record { line = straight i; commits = true }
+last_of i = record { line = straight i; commits = true; event = None }
 
 abbrev pub made : Straight → List BlockLine
 made b = map line_of b.before ++ (last_of b.commit ∷ map line_of b.behind)

@@ -43,8 +43,8 @@ pub record GoesOnWithBlock (first count added back : ℕ) (h h' : Hart) : Type 0
   pub registers : (r : ℕ) → is_free r ≡ false → h'.registers r ≡ h.registers r
   pub words : (j : ℕ) → (j ≡ full_word → ⊥) → h'.local j ≡ h.local j
 
--- In this cycle the hart commits, and adds to the count. What it becomes depends on the count that it
--- finds.
+-- In this cycle the hart commits, and adds to the count. What it becomes depends on the count that
+-- it finds.
 pub record AddsToCount (image : Image) (t : Setting) (number added : ℕ) (committing : Hart)
     (Then : (count : ℕ) → Hart → Type 0) : Type 0 where
   pub live : committing.ended ≡ false

@@ -1,7 +1,7 @@
 //! The blocks of jumps and of operations.
 
 ghost use Rattle.std.specs.Prelude.{◌≡◌, ◌+◌, ◌^◌, ◌<◌, ◌≤◌, true, false, All, OnOk, OnErr};
-ghost use Rattle.std.specs.Prelude.{length};
+ghost use Rattle.std.specs.Prelude.{None, length};
 ghost use Rattle.fk_asm.specs.Assembly.{AreFollowed, straight};
 ghost use Rattle.fk_asm.specs.Block.{GoesToMade, HasBegun, with_block};
 ghost use Rattle.fk_gen.specs.Lines.{first_commits};
@@ -148,7 +148,11 @@ fn emit_giving_back(into: &mut Assembler) -> Result<(), AllocError>
 }
 
 fn first_line(commits: bool, instruction: Instruction) -> BlockLine
-    ensures { result ≡ record { line = straight instruction; commits = commits } }
+    ensures { result ≡ record {
+      line = straight instruction;
+      commits = commits;
+      event = None;
+    } }
 {
     if commits {
         BlockLine::commits(instruction)

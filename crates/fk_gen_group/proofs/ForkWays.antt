@@ -17,7 +17,7 @@ use Rattle.fk_gen.specs.Lines.{quiet, goes_to, at_value, label_of}
 use Rattle.fk_gen.specs.InPlace.{LinesAt, HasLabels}
 use Rattle.fk_gen.proofs.Walk.{Quiets, Plain, LocalAt, CanWalk, Told, walk, told_of, walked, lines_split, private, runs_join}
 use Rattle.fk_gen.proofs.Jumps.{jumps, goes_to_pc, jalr_goes, jal_private, bne_taken, bne_on}
-use Rattle.fk_gen_group.specs.Splits.{HasParts, fork_label, fork_room, fork_place, counting_lines, waiting_lines, fork_saving, into_one_part, no_room, heading_by}
+use Rattle.fk_gen_group.specs.Splits.{HasParts, fork_label, fork_room, fork_place, counting_lines, waiting_lines, fork_saving, into_one_part, no_parts, heading_by}
 use Rattle.fk_gen_group.proofs.Last.{value_word}
 use Rattle.fk_gen_group.proofs.Parting.{with_level}
 
@@ -133,7 +133,7 @@ saves told first h s word size share index rank b =
 -- ---- the ways
 
 module _ (image : Image) (bound : ℕ → ℕ) (places : Places) (shared : HasParts image bound) (t : MachineSetting) (number link target site : ℕ)
-    (holds : Holds image t) (labels : HasLabels bound places) (back : LinesAt image bound link (goes_to (Jal zero_register 0) (label_of target) ∷ no_room site))
+    (holds : Holds image t) (labels : HasLabels bound places) (back : LinesAt image bound link (goes_to (Jal zero_register 0) (label_of target) ∷ no_parts site))
     (h : Hart) (live : h.ended ≡ false) (linked : h.registers ra ≡ 4 * link) (zero_is : h.registers zero_register ≡ 0) where
   -- who waits goes to where those wait
   abbrev pub wait_hart : Hart

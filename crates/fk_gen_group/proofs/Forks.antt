@@ -34,7 +34,7 @@ use Rattle.fk_gen.proofs.ValueLines.{operand_is}
 use Rattle.fk_gen.proofs.Walk.{Quiets, Plain, LocalAt, walk, told_of, walked, lines_split, runs_join}
 use Rattle.fk_gen.proofs.Jumps.{jumps, goes_to_pc, jal_private, bgeu_taken}
 use Rattle.fk_gen.proofs.Does.{holds_in_cycles}
-use Rattle.fk_gen_group.specs.Splits.{HasParts, fork_label, fork_room, fork_place, counting_lines, waiting_lines, fork_saving, into_one_part, no_room, heading_by}
+use Rattle.fk_gen_group.specs.Splits.{HasParts, fork_label, fork_room, fork_place, counting_lines, waiting_lines, fork_saving, into_one_part, no_parts, heading_by}
 use Rattle.fk_gen_group.specs.Laws.{IsInPlace}
 use Rattle.fk_gen_group.proofs.Last.{value_word}
 use Rattle.fk_gen_group.proofs.Sizes.{positive, positive_is}
@@ -69,7 +69,7 @@ module _ (core : List CoreOp) (image : Image) (bound : ℕ → ℕ) (places : Pl
     pub link : hart.registers ra ≡ 4 * fork_link
     pub local : hart.local ≡ m.hart.local
     pub others : (r : ℕ) → r ≢ 1 → r ≢ 7 → r ≢ 28 → r ≢ 29 → r ≢ 30 → hart.registers r ≡ m.hart.registers r
-    pub back : LinesAt image bound fork_link (goes_to (Jal zero_register 0) (label_of op.target) ∷ no_room op.site)
+    pub back : LinesAt image bound fork_link (goes_to (Jal zero_register 0) (label_of op.target) ∷ no_parts op.site)
     pub heading : LinesAt image bound (fork_link + 4) (heading_by (nestings.levels i))
     pub next : places.block (suc i) ≡ fork_link + 4 + length (heading_by (nestings.levels i))
 
@@ -129,7 +129,7 @@ module _ (core : List CoreOp) (image : Image) (bound : ℕ → ℕ) (places : Pl
         link = omega arith;
         local = refl;
         others = λ r a b c d e. rw (ne_eqb r 1 a, ne_eqb r 7 b, ne_eqb r 30 e, ne_eqb r 29 d, ne_eqb r 28 c);
-        back = subst (λ j. LinesAt image bound j (goes_to (Jal zero_register 0) (label_of op.target) ∷ no_room op.site)) five (rest.1.0, (rest.1.1.0, (rest.1.1.1.0, (rest.1.1.1.1.0, tt))));
+        back = subst (λ j. LinesAt image bound j (goes_to (Jal zero_register 0) (label_of op.target) ∷ no_parts op.site)) five (rest.1.0, (rest.1.1.0, (rest.1.1.1.0, (rest.1.1.1.1.0, tt))));
         heading = subst (λ j. LinesAt image bound j (heading_by (nestings.levels i))) nine rest.1.1.1.1.1;
         next = omega arith;
       }

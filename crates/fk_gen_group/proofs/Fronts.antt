@@ -30,7 +30,7 @@ use Rattle.fk_gen.specs.InPlace.{LinesAt}
 use Rattle.fk_gen.proofs.Walk.{Quiets, Plain, LocalAt, CanWalk, quiet_lines, walk, told_of, walked, lines_split, runs_join}
 use Rattle.fk_gen.proofs.Jumps.{jumps, jal_private}
 use Rattle.fk_gen.proofs.Does.{quiet_length, holds_in_cycles}
-use Rattle.fk_gen_group.specs.Splits.{no_room, part_lines, parts_label}
+use Rattle.fk_gen_group.specs.Splits.{no_parts, part_lines, parts_label}
 use Rattle.fk_gen_group.specs.Laws.{IsInPlace, LeavesBy}
 use Rattle.fk_gen_group.proofs.Last.{value_word, is_value, is_last}
 
@@ -145,14 +145,14 @@ module _ (core : List CoreOp) (image : Image) (bound : ℕ → ℕ) (places : Pl
     pub link : hart.registers ra ≡ 4 * link_at
     pub local : hart.local ≡ memory_by by op.depth m.hart
     pub others : (r : ℕ) → r ≢ 1 → r ≢ 5 → r ≢ 7 → r ≢ 28 → hart.registers r ≡ m.hart.registers r
-    pub back : LinesAt image bound link_at (goes_to (Jal zero_register 0) (label_of op.target) ∷ no_room op.site)
+    pub back : LinesAt image bound link_at (goes_to (Jal zero_register 0) (label_of op.target) ∷ no_parts op.site)
     pub next : places.block (suc i) ≡ link_at + 4
 
   abbrev w : ℕ
   w = value_word op.depth m.hart
 
   abbrev rest : List MarkedLine
-  rest = goes_to (Jal ra 0) (parts_label by) ∷ goes_to (Jal zero_register 0) (label_of op.target) ∷ no_room op.site
+  rest = goes_to (Jal ra 0) (parts_label by) ∷ goes_to (Jal zero_register 0) (label_of op.target) ∷ no_parts op.site
 
   -- after the lines of the part
   fronted_with : (quiets : Quiets) → length quiets ≡ length (part_lines by op.depth) + 1 → LinesAt image bound (places.block i) (quiet_lines quiets ++ rest)
@@ -192,7 +192,7 @@ module _ (core : List CoreOp) (image : Image) (bound : ℕ → ℕ) (places : Pl
         link = omega arith;
         local = local;
         others = λ r a b c d. rw (ne_eqb r 1 a) (others r b c d);
-        back = subst (λ j. LinesAt image bound j (goes_to (Jal zero_register 0) (label_of op.target) ∷ no_room op.site)) back behind.1;
+        back = subst (λ j. LinesAt image bound j (goes_to (Jal zero_register 0) (label_of op.target) ∷ no_parts op.site)) back behind.1;
         next = omega arith;
       }
 

@@ -40,7 +40,7 @@ use Rattle.fk_gen.proofs.Values.{number_of_parts}
 use Rattle.fk_gen.proofs.Walk.{private, runs_join}
 use Rattle.fk_gen.proofs.Jumps.{jumps, goes_to_pc, jalr_goes, bgeu_on}
 use Rattle.fk_gen.proofs.Does.{holds_in_cycles}
-use Rattle.fk_gen_group.specs.Splits.{HasParts, part_lines, parts_label, one_part_label, two_parts_label, fork_label, no_room, split_faults_in}
+use Rattle.fk_gen_group.specs.Splits.{HasParts, part_lines, parts_label, one_part_label, two_parts_label, fork_label, no_parts, split_faults_in}
 use Rattle.fk_gen_group.specs.Laws.{IsInPlace, IsSplitInPlace, GroupsLackRoom}
 use Rattle.fk_gen_group.proofs.Members.{fault_part}
 use Rattle.fk_gen_group.proofs.ForkSizes.{full_of}
@@ -51,7 +51,7 @@ module _ (core : List CoreOp) (image : Image) (bound : ℕ → ℕ) (places : Pl
     (place : IsInPlace core image bound places nestings i op (Split by)) (small : op.site < 2 ^ 32)
     (setting : Setting) (space : Space) (count : ℕ) (full : has_parts space count ≡ false)
     (cycle0 : MachineSetting) (m : Member) (p : Owner) (en : Enters core image places setting cycle0 i op (Split by) p m.hart)
-    (divides : IsToDivide nestings by space count p) (link : ℕ) (back : LinesAt image bound link (goes_to (Jal zero_register 0) (label_of op.target) ∷ no_room op.site)) where
+    (divides : IsToDivide nestings by space count p) (link : ℕ) (back : LinesAt image bound link (goes_to (Jal zero_register 0) (label_of op.target) ∷ no_parts op.site)) where
   abbrev pub Faulting : ℕ → Type 0
   Faulting before = OneDoes (core_source core setting) image cycle0 1 before 0 m p (λ h d. ⊥)
 

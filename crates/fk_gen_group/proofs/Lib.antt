@@ -82,5 +82,7 @@ pub mod InNode
 pub mod Calls
 -- all that processors do alone
 pub mod Alone
+-- the events of commits
+pub mod Marked
 -- evaluated examples
 pub mod Examples

@@ -8,6 +8,8 @@ use Rattle.fk_meaning_operation.specs.declared.operation.Operation.TheVariants.{
 use Rattle.fk_meaning.specs.Processor.{Setting}
 use Rattle.fk_core.specs.declared.op.CoreOp.{CoreOp}
 use Rattle.fk_image.specs.declared.Image.{Image}
+use Rattle.fk_image.specs.declared.event.Event.{Event}
+use Rattle.fk_image.specs.declared.event.Event.TheVariants as events
 use Rattle.fk_isa.specs.declared.instruction.Instruction.TheVariants.{Addi}
 use Rattle.fk_machine.specs.Hart.{Hart, Setting as MachineSetting}
 use Rattle.fk_machine.proofs.Performs.{writes, addi}
@@ -38,8 +40,8 @@ record IsCount (size : ℕ) : Type 0 where
   pub not_t1 : size ≢ t1
   pub not_t2 : size ≢ t2
 
-meeting_is : (size : ℕ) → IsCount size → IsMeeting (meeting_of size)
-meeting_is size is = record { arrivals_t0 = λ e. omega arith; arrivals_t1 = λ e. omega arith; size_t0 = is.not_t0; size_t1 = is.not_t1 }
+meeting_is : (event : Event) (size : ℕ) → IsCount size → IsMeeting (meeting_of event size)
+meeting_is event size is = record { arrivals_t0 = λ e. omega arith; arrivals_t1 = λ e. omega arith; size_t0 = is.not_t0; size_t1 = is.not_t1 }
 
 module _ (core : List CoreOp) (image : Image) (bound : ℕ → ℕ) (places : Places) (nestings : Nestings) (i : ℕ) (op : CoreOp) (operation : Operation)
     (place : IsInPlace core image bound places nestings i op operation) (flows : Flows core places.frames nothing i (suc i)) (stay : LevelsStay nestings i (suc i)) where
@@ -62,10 +64,10 @@ module _ (core : List CoreOp) (image : Image) (bound : ℕ → ℕ) (places : Pl
   abbrev with_word : (word : ℕ) → Hart → Hart
   with_word word h = writes h t2 (word_sum (h.registers node_register) (4 * word))
 
-  ready : (setting : Setting) (t : MachineSetting) (mine : Words) (runs : Option ℕ) (first word size n : ℕ) (m : Member) (p : Owner) → OwnsHeader mine first → word < 8 → IsCount size
+  ready : (setting : Setting) (t : MachineSetting) (mine : Words) (runs : Option ℕ) (event : Event) (first word size n : ℕ) (m : Member) (p : Owner) → OwnsHeader mine first → word < 8 → IsCount size
       → Enters core image places setting t i op operation p m.hart → IsMember places nestings setting runs first m p → m.hart.registers size ≡ n
-      → IsReadyToMeet (meeting_of size) (first + word) n (with_word word m.hart)
-  ready setting t mine runs first word size n m p owns lt is en member so_many =
+      → IsReadyToMeet (meeting_of event size) (first + word) n (with_word word m.hart)
+  ready setting t mine runs event first word size n m p owns lt is en member so_many =
       let within = owns.within in
       let e = member.node.node ∙ ap control_address member.words in
       record {
@@ -76,19 +78,19 @@ module _ (core : List CoreOp) (image : Image) (bound : ℕ → ℕ) (places : Pl
         size = rw (ne_eqb size t2 is.not_t2) so_many;
       }
 
-  meets : (word size : ℕ) → word < 8 → IsCount size → HasBlock image bound places i (meet_block word size) → (setting : Setting) (t : MachineSetting) (mine : Words) (runs : Option ℕ) (first n : ℕ) (m : Member) (p : Owner)
+  meets : (event : Event) (word size : ℕ) → word < 8 → IsCount size → HasBlock image bound places i (meet_block event word size) → (setting : Setting) (t : MachineSetting) (mine : Words) (runs : Option ℕ) (first n : ℕ) (m : Member) (p : Owner)
       → OwnsHeader mine first → Enters core image places setting t i op operation p m.hart → IsMember places nestings setting runs first m p
-      → m.hart.registers size ≡ n → ComesToMeet core image bound places nestings i op operation (meeting_of size) (first + word) setting t runs n m p
-  meets word size lt is block setting t mine runs first n m p owns en member so_many =
+      → m.hart.registers size ≡ n → ComesToMeet core image bound places nestings i op operation (meeting_of event size) (first + word) setting t runs n m p
+  meets event word size lt is block setting t mine runs first n m p owns en member so_many =
       let k = places.block i in
-      let g = meeting_of size in
+      let g = meeting_of event size in
       let lines = block.lines in
       let within = lines.0.within in
       let next = block.next in
       let h1 = with_word word m.hart in
       let pc : m.hart.pc ≡ 4 * k = en.at.at ∙ ap (λ j. 4 * places.block j) en.index in
-      let has : HasMeeting g image bound (suc k) = record { fits = meeting_is size is; lines = lines.1 } in
-      let ready_is = ready setting t mine runs first word size n m p owns lt is en member so_many in
+      let has : HasMeeting g image bound (suc k) = record { fits = meeting_is event size is; lines = lines.1 } in
+      let ready_is = ready setting t mine runs event first word size n m p owns lt is en member so_many in
       let comes = harts_arrive g image bound (suc k) (first + word) n m.number (later t) h1 has en.running.code ready_is (omega arith) in
       let few = comes.2 in
       let d = comes.0 in
@@ -131,14 +133,14 @@ pub blocks_come : (core : List CoreOp) (image : Image) (bound : ℕ → ℕ) (pl
     → IsInPlace core image bound places nestings i op operation → BlockComesToMeet core image bound places nestings i op operation
 blocks_come core image bound places nestings i op (Meet false) is place =
     λ setting t mine runs first n m p owns en member so_many.
-    meets core image bound places nestings i op (Meet false) place (place.fits.goes_on true) place.stay barrier_word body_register (omega arith) body_is place.block setting t mine runs first n m p owns en member
+    meets core image bound places nestings i op (Meet false) place (place.fits.goes_on true) place.stay events.Meet barrier_word body_register (omega arith) body_is place.block setting t mine runs first n m p owns en member
     (subst (λ r. IfSome r (λ k. m.hart.registers body_register ≡ k)) so_many member.node.body)
 blocks_come core image bound places nestings i op (Meet true) is place =
     λ setting t mine runs first n m p owns en member so_many.
-    meets core image bound places nestings i op (Meet true) place (place.fits.goes_on true) place.stay closing_word size_register (omega arith) size_is place.block setting t mine runs first n m p owns en member
+    meets core image bound places nestings i op (Meet true) place (place.fits.goes_on true) place.stay events.Meet closing_word size_register (omega arith) size_is place.block setting t mine runs first n m p owns en member
     (en.at.stands.size ∙ so_many)
 blocks_come core image bound places nestings i op Resume is place =
     λ setting t mine runs first n m p owns en member so_many.
-    meets core image bound places nestings i op Resume place (place.fits.goes_on true) place.stay closing_word size_register (omega arith) size_is place.block setting t mine runs first n m p owns en member
+    meets core image bound places nestings i op Resume place (place.fits.goes_on true) place.stay events.Resume closing_word size_register (omega arith) size_is place.block setting t mine runs first n m p owns en member
     (en.at.stands.size ∙ so_many)
 blocks_come core image bound places nestings i op operation is place = absurd (cc)

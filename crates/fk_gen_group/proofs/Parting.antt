@@ -35,7 +35,7 @@ use Rattle.fk_gen.proofs.Walk.{Quiets, Plain, LocalAt, CanWalk, Told, walk, told
 use Rattle.fk_gen.proofs.Jumps.{jumps, goes_to_pc, jalr_goes, jal_private, bne_taken, bne_on, bgeu_taken}
 use Rattle.fk_gen.proofs.Does.{holds_in_cycles}
 use Rattle.fk_gen.proofs.Standing.{InMemory, in_memory, groups_on, waiting_kept, with_list}
-use Rattle.fk_gen_group.specs.Splits.{HasParts, no_room, part_lines, parts_label, one_part_label, two_parts_label, one_part_place, two_parts_place, counting_lines, waiting_lines, saving_lines, into_one_part, into_two_parts}
+use Rattle.fk_gen_group.specs.Splits.{HasParts, no_parts, part_lines, parts_label, one_part_label, two_parts_label, one_part_place, two_parts_place, counting_lines, waiting_lines, saving_lines, into_one_part, into_two_parts}
 use Rattle.fk_gen_group.specs.Laws.{IsInPlace}
 use Rattle.fk_gen_group.proofs.Last.{value_word, is_value}
 use Rattle.fk_gen_group.proofs.Levels.{below_values, lies_below, many_callers, saved_kept, saved_by, outer_kept}
@@ -663,7 +663,7 @@ module _ (image : Image) (bound : ℕ → ℕ) (shared : HasParts image bound) w
 
 -- who waits goes to where those wait
 module _ (image : Image) (bound : ℕ → ℕ) (places : Places) (shared : HasParts image bound) (t : MachineSetting) (number link target site : ℕ)
-    (holds : Holds image t) (labels : HasLabels bound places) (back : LinesAt image bound link (goes_to (Jal zero_register 0) (label_of target) ∷ no_room site))
+    (holds : Holds image t) (labels : HasLabels bound places) (back : LinesAt image bound link (goes_to (Jal zero_register 0) (label_of target) ∷ no_parts site))
     (h : Hart) (live : h.ended ≡ false) (linked : h.registers ra ≡ 4 * link) (zero_is : h.registers zero_register ≡ 0) where
   abbrev pub wait_hart : Hart
   wait_hart = jumps (jumps (goes_to_pc h (word_sum h.pc 4)) 0 (4 * link)) 0 (4 * bound (label_of target))
@@ -693,7 +693,7 @@ module _ (image : Image) (bound : ℕ → ℕ) (places : Places) (shared : HasPa
 
 -- who enters a part
 module _ (image : Image) (bound : ℕ → ℕ) (places : Places) (shared : HasParts image bound) (t : MachineSetting) (number link target next : ℕ) (site : ℕ)
-    (holds : Holds image t) (labels : HasLabels bound places) (back : LinesAt image bound link (goes_to (Jal zero_register 0) (label_of target) ∷ no_room site)) (here : next ≡ link + 4)
+    (holds : Holds image t) (labels : HasLabels bound places) (back : LinesAt image bound link (goes_to (Jal zero_register 0) (label_of target) ∷ no_parts site)) (here : next ≡ link + 4)
     (first h : Hart) (memory : Memory) (s word size : ℕ) (behind : IsBehind first h memory s word size) (linked : h.registers ra ≡ 4 * link)
     (zero_is : h.registers zero_register ≡ 0) where
   abbrev k1 : ℕ

@@ -14,7 +14,7 @@ use Rattle.fk_gen.specs.Registers.{t0}
 use Rattle.fk_gen_group.specs.Meeting as lines
 use Rattle.fk_gen_group.specs.Meeting.{Meeting, HasMeeting, IsReadyToMeet, Keeps, HasLeft, count_of_leaving, lead}
 use Rattle.fk_gen_group.specs.Blocks.{meeting_of}
-use Rattle.fk_gen_group.specs.Meet.{counted_by}
+use Rattle.fk_gen_group.specs.Meet.{counted_by, event_by}
 use Rattle.fk_gen_group.specs.Laws.{BlocksMeet}
 use Rattle.fk_gen_group.proofs.Steps.{harts_move}
 use Rattle.fk_gen_group.proofs.Meets.{blocks_come}
@@ -37,7 +37,7 @@ kept_at g first h at live keeps pc = record {
 module _ (g : Meeting) (image : Image) (bound : ℕ → ℕ) (k w n number : ℕ) (first : Hart) (has : HasMeeting g image bound k) (ready : IsReadyToMeet g w n first)
     (Left : Hart → Type 0) (leaves : (h : Hart) → HasLeft g image k n first h → Left h) where
   abbrev count : ℕ
-  count = count_of_leaving g.commits
+  count = count_of_leaving g.leaving
 
   abbrev polling : Polling
   polling = record { at = k + 7; changes = λ r. (r == 5) || (r == 6) }
@@ -154,9 +154,9 @@ blocks_meet core image bound places nestings i op operation is place setting t m
         polling = record { at = c.lines + 7; changes = λ r. (r == 5) || (r == 6) };
         first = c.first;
         code = en.running.code;
-        polls = keeps_polling (meeting_of (counted_by operation)) image bound c.lines _ n m.number c.first at.meeting at.ready _ comes.leaves;
+        polls = keeps_polling (meeting_of (event_by operation) (counted_by operation)) image bound c.lines _ n m.number c.first at.meeting at.ready _ comes.leaves;
         stands =
-            on_its_way (meeting_of (counted_by operation)) image bound c.lines _ n m.number c.first at.meeting at.ready _ comes.leaves t comes.steps m.hart en.running.code
-            (subst (λ f. lines.IsInPhase (meeting_of (counted_by operation)) image c.lines n c.first t m.number f m.hart) comes.comes at.stands);
+            on_its_way (meeting_of (event_by operation) (counted_by operation)) image bound c.lines _ n m.number c.first at.meeting at.ready _ comes.leaves t comes.steps m.hart en.running.code
+            (subst (λ f. lines.IsInPhase (meeting_of (event_by operation) (counted_by operation)) image c.lines n c.first t m.number f m.hart) comes.comes at.stands);
       },
     )

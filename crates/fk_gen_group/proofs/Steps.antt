@@ -1,10 +1,12 @@
 -- Each turn of a hart that meets.
-use Rattle.std.proofs.Common.{◌≡◌, ℕ, zero, suc, ◌+◌, ◌-◌, ◌*◌, ◌%◌, ◌^◌, ◌<◌, ◌≤◌, ◌≢◌, Bool, true, false, sym, ap, subst, ◌∙◌, arith, refl, ◌⊎◌, inl, inr, eq-eqb}
+use Rattle.std.proofs.Common.{◌≡◌, ℕ, zero, suc, ◌+◌, ◌-◌, ◌*◌, ◌%◌, ◌^◌, ◌<◌, ◌≤◌, ◌≢◌, true, false, Option, Some, None, sym, ap, subst, ◌∙◌, arith, refl, ◌⊎◌, inl, inr, eq-eqb}
 use Rattle.std.specs.Prelude.{◌==◌, bit_and, if◌then◌else◌}
 use Rattle.std.proofs.lemmas.Bool.{cases_eq, ne_eqb}
 use Rattle.std.proofs.lemmas.Nat.{and_mask}
 use Rattle.fk_num.specs.Word.{Memory, put, word_sum}
 use Rattle.fk_image.specs.declared.Image.{Image}
+use Rattle.fk_image.specs.declared.event.Event.{Event}
+use Rattle.fk_image.specs.declared.event.Event.TheVariants.{Split, Shrink, End, Resume, Meet, Agree}
 use Rattle.fk_isa.specs.declared.instruction.Instruction.{Instruction}
 use Rattle.fk_isa.specs.declared.instruction.Instruction.TheVariants.{Lui, Lw, Sw, Addi, Andi, Beq, Bne, AmoAddW}
 use Rattle.fk_machine.specs.Hart.{Hart, Shared, Setting, Reservations, Goes}
@@ -193,16 +195,21 @@ at_branch : (g : Meeting) (image : Image) (bound : ℕ → ℕ) (k : ℕ) → Li
 at_branch g image bound k at =
     let e : suc (suc (suc (suc (suc (suc (suc (suc k))))))) ≡ k + 8 = omega arith in subst (λ j. IsAt image j (Bne t0 g.size (2 ^ 32 - 4)) 0) e at.1.1.1.1.1.1.1.1.0
 
-leaving_at : (image : Image) (bound : ℕ → ℕ) (k : ℕ) (b : Bool) (i : Instruction) → IsAt image k (resolved bound k (leaving_line b i).line) (count_of_commit (leaving_line b i).commit)
-    → IsAt image k i (count_of_leaving b)
-leaving_at image bound k true i at = at
-leaving_at image bound k false i at = at
+leaving_at : (image : Image) (bound : ℕ → ℕ) (k : ℕ) (leaving : Option Event) (i : Instruction) → IsAt image k (resolved bound k (leaving_line leaving i).line) (count_of_commit (leaving_line leaving i).commit)
+    → IsAt image k i (count_of_leaving leaving)
+leaving_at image bound k (Some Split) i at = at
+leaving_at image bound k (Some Shrink) i at = at
+leaving_at image bound k (Some End) i at = at
+leaving_at image bound k (Some Resume) i at = at
+leaving_at image bound k (Some Meet) i at = at
+leaving_at image bound k (Some Agree) i at = at
+leaving_at image bound k None i at = at
 
-at_leaving : (g : Meeting) (image : Image) (bound : ℕ → ℕ) (k : ℕ) → LinesAt image bound k (meeting_lines g) → IsAt image (k + 9) (Sw g.arrivals 0 0) (count_of_leaving g.commits)
+at_leaving : (g : Meeting) (image : Image) (bound : ℕ → ℕ) (k : ℕ) → LinesAt image bound k (meeting_lines g) → IsAt image (k + 9) (Sw g.arrivals 0 0) (count_of_leaving g.leaving)
 at_leaving g image bound k at =
     let e : suc (suc (suc (suc (suc (suc (suc (suc (suc k)))))))) ≡ k + 9 = omega arith in
-    subst (λ j. IsAt image j (Sw g.arrivals 0 0) (count_of_leaving g.commits)) e
-    (leaving_at image bound (suc (suc (suc (suc (suc (suc (suc (suc (suc k))))))))) g.commits (Sw g.arrivals 0 0) at.1.1.1.1.1.1.1.1.1.0)
+    subst (λ j. IsAt image j (Sw g.arrivals 0 0) (count_of_leaving g.leaving)) e
+    (leaving_at image bound (suc (suc (suc (suc (suc (suc (suc (suc (suc k))))))))) g.leaving (Sw g.arrivals 0 0) at.1.1.1.1.1.1.1.1.1.0)
 
 counted_at : (image : Image) (h : Hart) (j c : ℕ) → h.pc ≡ 4 * j → count_in image.commits.items (4 * j) ≡ c → count_in image.commits.items h.pc ≡ c
 counted_at image h j c pc e = ap (count_in image.commits.items) pc ∙ e
@@ -393,7 +400,7 @@ leaving_turn g image bound mine k w n t first m own has is holds r keeps pc =
     let lt = i.within in
     let wide = r.within in
     let h = m.hart in
-    let c = count_of_leaving g.commits in
+    let c = count_of_leaving g.leaving in
     let word : h.registers g.arrivals ≡ 0x18000000 + 4 * w = still g first h g.arrivals _ keeps has.fits.arrivals_t0 has.fits.arrivals_t1 r.arrivals in
     record {
       hart = moves h;

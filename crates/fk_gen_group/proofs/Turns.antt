@@ -199,7 +199,7 @@ module _ (g : Meeting) (image : Image) (bound : ℕ → ℕ) (mine : Words) (w n
     pub left : AllHaveLeft g image bound w n cs members
     pub nobody : (own w ≡ 0) ⊎ (cs ≡ [] → ⊥) → words w ≡ 0
     pub others : (j : ℕ) → j ≢ w → words j ≡ own j
-    pub cycle : (Then : List Member → Memory → Type 0) → Then members words → NodeCycle image mine t (count_of_leaving g.commits) ms own Then
+    pub cycle : (Then : List Member → Memory → Type 0) → Then members words → NodeCycle image mine t (count_of_leaving g.leaving) ms own Then
 
   record LeftOne (t : Setting) (c : Comer) (m : Member) (own : Memory) : Type 0 where
     pub hart : Hart
@@ -207,7 +207,7 @@ module _ (g : Meeting) (image : Image) (bound : ℕ → ℕ) (mine : Words) (w n
     pub left : HasLeft g image c.lines n c.first hart
     pub nobody : words w ≡ 0
     pub others : (j : ℕ) → j ≢ w → words j ≡ own j
-    pub stays : Stays image mine t (count_of_leaving g.commits) m own hart words
+    pub stays : Stays image mine t (count_of_leaving g.leaving) m own hart words
 
   left_one : (t : Setting) (f : Phase) (c : Comer) (m : Member) (own : Memory) → Holds image t → mine w ≡ true → IsInLines g image bound w n t c m → c.phase ≡ f → IsInside f → Leaves 0 f → LeftOne t c m own
   left_one t (Leaving zero) c m own holds is s e inside leaves =
@@ -296,7 +296,7 @@ module _ (g : Meeting) (image : Image) (bound : ℕ → ℕ) (mine : Words) (w n
   due_later k t cs ms own r due =
       let le = due.1 in
       let d = due.0 in
-      let c = count_of_leaving g.commits in
+      let c = count_of_leaving g.leaving in
       let cs' = with_phases cs r.phases' in
       let many : length r.phases' ≡ length cs = r.many ∙ many_phases cs in
       let After : List Member → Memory → Type 0 = λ ms' own'. NodeRun image mine (later t) d ms' own'

@@ -9,6 +9,8 @@ use Rattle.fk_meaning_operation.specs.declared.operation.Operation.TheVariants.{
 use Rattle.fk_meaning.specs.Group.{taken_by}
 use Rattle.fk_core.specs.Numbers.{operation_of}
 use Rattle.fk_image.specs.declared.Image.{Image}
+use Rattle.fk_image.specs.declared.event.Event.{Event}
+use Rattle.fk_image.specs.declared.event.Event.TheVariants as events
 use Rattle.fk_isa.specs.declared.instruction.Instruction.{Instruction}
 use Rattle.fk_isa.specs.declared.instruction.Instruction.TheVariants.{Lui, Jal, Jalr, Beq, Bltu}
 use Rattle.fk_isa.specs.declared.instruction.Instruction.TheVariants.{Bgeu, Lw, Sw, Addi, Sltiu}
@@ -19,7 +21,7 @@ use Rattle.fk_sim_block.specs.Stands.{end_register, number_register, rank_regist
 use Rattle.fk_sim_block.specs.Stands.{device_register}
 use Rattle.fk_sim_block.specs.Stands.{zero_register, group_frame_register}
 use Rattle.fk_gen.specs.Registers.{ra, t0, t1, t2, t3}
-use Rattle.fk_gen.specs.Lines.{quiet, commits, goes_to, first_commits, at_group_frame}
+use Rattle.fk_gen.specs.Lines.{quiet, commits, commits_as, goes_to, first_commits, at_group_frame}
 use Rattle.fk_gen.specs.Lines.{label_of, high_part, low_part, add_number, to_data}
 use Rattle.fk_gen.specs.Operands.{operand, result}
 use Rattle.fk_gen.specs.InPlace.{LinesAt}
@@ -31,27 +33,29 @@ use Rattle.fk_gen_group.specs.Meeting.{Meeting, meeting_lines}
 use Rattle.fk_gen_group.specs.Splits.{no_room, split_block, end_part_block, shrink_block}
 
 -- A meeting whose leaving is the operation, with the number of members in a register.
-abbrev pub meeting_of : (size : ℕ) → Meeting
-meeting_of size = record { arrivals = t2; size = size; commits = true }
+abbrev pub meeting_of : Event → (size : ℕ) → Meeting
+meeting_of event size = record { arrivals = t2; size = size; leaving = Some event }
 
 -- A meeting at a control word of the node.
-abbrev pub meet_block : (word size : ℕ) → List MarkedLine
-meet_block word size = quiet (Addi t2 node_register (4 * word)) ∷ meeting_lines (meeting_of size)
+abbrev pub meet_block : Event → (word size : ℕ) → List MarkedLine
+meet_block event word size =
+    quiet (Addi t2 node_register (4 * word)) ∷ meeting_lines (meeting_of event size)
 
 -- Those who run a body meet at a `barrier`. All members of a node meet at the end of a body, and
 -- where they wait for a part to end.
 abbrev pub barrier_block : List MarkedLine
-barrier_block = meet_block barrier_word body_register
+barrier_block = meet_block events.Meet barrier_word body_register
 
-abbrev pub closing_block : List MarkedLine
-closing_block = meet_block closing_word size_register
+abbrev pub closing_block : Event → List MarkedLine
+closing_block event = meet_block event closing_word size_register
 
 -- All members store their last values in one cycle, so that the highest member's stays, and load it
 -- in the next.
 abbrev pub agree_block : (depth : ℕ) → List MarkedLine
 agree_block depth =
     quiet (operand t0 depth) ∷ quiet (Sw node_register t0 (4 * agreed_word)) ∷
-    commits (Lw t0 node_register (4 * agreed_word)) ∷ quiet (result t0 depth) ∷ []
+    commits_as events.Agree (Lw t0 node_register (4 * agreed_word))
+    ∷ quiet (result t0 depth) ∷ []
 
 -- All members run the body of a `farm`, each by itself.
 abbrev pub farm_block : List MarkedLine
@@ -73,7 +77,7 @@ seq_block target =
 -- root's body.
 abbrev pub end_block : (target : ℕ) → List MarkedLine
 end_block target =
-    commits (Addi number_register zero_register 0) ∷ quiet (Lui t0 0x30000) ∷
+    commits_as events.End (Addi number_register zero_register 0) ∷ quiet (Lui t0 0x30000) ∷
     quiet (Lw rank_register t0 20) ∷
     quiet (Lw size_register t0 24) ∷ quiet (Addi body_register size_register 0) ∷
     quiet (Lui node_register 0x18400) ∷
@@ -101,7 +105,7 @@ taking_lines nesting =
 abbrev pub frame_lines : (nesting site : ℕ) → List MarkedLine
 frame_lines nesting site =
     quiet (Lui t1 to_data) ∷ quiet (Bgeu blocks_register t0 16)
-    ∷ (no_room site ++ taking_lines nesting)
+    ∷ (no_room None site ++ taking_lines nesting)
 
 abbrev pub frame_block : (nesting words site : ℕ) → List MarkedLine
 frame_block nesting words site =
@@ -138,13 +142,13 @@ begin_block depth target =
 
 -- All processors meet in the root, where leaving is no operation.
 abbrev pub gathering : Meeting
-gathering = record { arrivals = t2; size = size_register; commits = false }
+gathering = record { arrivals = t2; size = size_register; leaving = None }
 
 -- All processors store their values in one cycle, so that the highest one's stays, and load it in
 -- the next.
 abbrev pub telling_lines : List MarkedLine
 telling_lines = quiet (Sw node_register t3 (4 * agreed_word))
-    ∷ commits (Lw t3 node_register (4 * agreed_word)) ∷ []
+    ∷ commits_as events.Split (Lw t3 node_register (4 * agreed_word)) ∷ []
 
 -- The value becomes the size of the group: 0 for a negative value, and at most the number of
 -- processors.
@@ -203,9 +207,9 @@ block_by (Some Agree) levels depth target site = agree_block depth
 block_by (Some Farm) levels depth target site = farm_block
 block_by (Some Seq) levels depth target site = seq_block target
 block_by (Some End) levels depth target site = end_by levels target
-block_by (Some Resume) levels depth target site = closing_block
+block_by (Some Resume) levels depth target site = closing_block events.Resume
 block_by (Some (Meet false)) levels depth target site = barrier_block
-block_by (Some (Meet true)) levels depth target site = closing_block
+block_by (Some (Meet true)) levels depth target site = closing_block events.Meet
 block_by (Some (Frame nesting words)) levels depth target site = frame_block nesting words site
 block_by (Some Block) levels depth target site = shalloc_block depth
 block_by (Some (Split by)) levels depth target site =

@@ -1,6 +1,6 @@
 -- What the blocks of groups do in place.
-use Rattle.std.specs.Prelude.{◌≡◌, ℕ, ◌-◌, ◌^◌, ◌<◌, ◌≤◌, suc, List, length, Option, Some, None, true}
-use Rattle.std.specs.Prelude.{if◌then◌else◌}
+use Rattle.std.specs.Prelude.{◌≡◌, ℕ, ◌-◌, ◌^◌, ◌<◌, ◌≤◌, suc, List, length, Option, Some, None}
+use Rattle.std.specs.Prelude.{true, if◌then◌else◌}
 use Rattle.fk_meaning_operation.specs.declared.operation.SplitKind.{SplitKind}
 use Rattle.fk_meaning_operation.specs.declared.operation.SplitKind.TheVariants.{IfElse, Fork}
 use Rattle.fk_meaning_operation.specs.declared.operation.Operation.{Operation}
@@ -18,8 +18,7 @@ use Rattle.fk_gen.specs.InPlace.{HasBlock}
 use Rattle.fk_gen.specs.declared.placed.Levels.{Levels}
 use Rattle.fk_sim_block.specs.Node.{Nestings, HasLevelRoom}
 use Rattle.fk_sim_block.specs.Lockstep.{LevelsStay, LevelOpens, StepTogether, PartTogether}
-use Rattle.fk_sim_block.specs.Lockstep.{EndTogether}
-use Rattle.fk_sim_block.specs.Lockstep.{AreOfSize, IsLowest, AreInGroup, one_runs}
+use Rattle.fk_sim_block.specs.Lockstep.{EndTogether, AreOfSize, IsLowest, AreInGroup, one_runs}
 use Rattle.fk_sim_block.specs.Lockstep.{values_of_step}
 use Rattle.fk_sim_block.specs.Parts.{DividesTogether, FaultsTogether, ShrinksTogether, EndsPart}
 use Rattle.fk_gen_group.specs.Blocks.{block_by, frame_takes, HasStart}

@@ -3,6 +3,7 @@ pub mod Together
 pub mod Chains
 pub mod Splits
 pub mod Blocks
+pub mod Events
 pub mod Meet
 pub mod Start
 pub mod Laws

@@ -1,10 +1,12 @@
 -- A hart at the block of a joint operation, on its way in the lines of a meeting.
 use Rattle.std.specs.Prelude.{◌≡◌, ℕ, suc, ◌+◌, ◌≤◌, List, false, Option}
 use Rattle.fk_meaning_operation.specs.declared.operation.Operation.{Operation}
-use Rattle.fk_meaning_operation.specs.declared.operation.Operation.TheVariants.{Meet}
+use Rattle.fk_meaning_operation.specs.declared.operation.Operation.TheVariants.{Meet, Resume}
 use Rattle.fk_meaning.specs.Processor.{Setting}
 use Rattle.fk_core.specs.declared.op.CoreOp.{CoreOp}
 use Rattle.fk_image.specs.declared.Image.{Image}
+use Rattle.fk_image.specs.declared.event.Event.{Event}
+use Rattle.fk_image.specs.declared.event.Event.TheVariants as events
 use Rattle.fk_machine.specs.Hart.{Hart, Setting as MachineSetting}
 use Rattle.fk_sim_nodes.specs.Node.{Member, Words}
 use Rattle.fk_sim_nodes.specs.Phase.{Coming}
@@ -23,6 +25,11 @@ use Rattle.fk_gen_group.specs.Blocks.{meeting_of}
 abbrev pub counted_by : Operation → ℕ
 counted_by (Meet false) = body_register
 counted_by operation = size_register
+
+-- The event that a meeting is.
+abbrev pub event_by : Operation → Event
+event_by Resume = events.Resume
+event_by operation = events.Meet
 
 module _ (core : List CoreOp) (image : Image) (bound : ℕ → ℕ) (places : Places)
     (nestings : Nestings) (i : ℕ) (op : CoreOp) (operation : Operation) where
@@ -45,5 +52,6 @@ module _ (core : List CoreOp) (image : Image) (bound : ℕ → ℕ) (places : Pl
       (m : Member) (p : Owner)
       → OwnsHeader mine first → Enters core image places setting t i op operation p m.hart
       → IsMember places nestings setting runs first m p
-      → AreSoMany operation runs p n → ComesToMeet (meeting_of (counted_by operation))
+      → AreSoMany operation runs p n
+      → ComesToMeet (meeting_of (event_by operation) (counted_by operation))
       (first + word_of operation) setting t runs n m p

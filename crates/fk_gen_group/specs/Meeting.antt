@@ -1,8 +1,9 @@
 -- The lines of a meeting, and where a hart is in them.
 use Rattle.std.specs.Prelude.{◌≡◌, ◌≢◌, ℕ, zero, suc, ◌+◌, ◌-◌, ◌*◌, ◌%◌, ◌^◌, ◌<◌, ◌≤◌, List, []}
-use Rattle.std.specs.Prelude.{◌∷◌, Bool, true, false, ◌⊎◌}
+use Rattle.std.specs.Prelude.{◌∷◌, true, false, Option, Some, None, ◌⊎◌}
 use Rattle.fk_num.specs.Word.{Memory}
 use Rattle.fk_image.specs.declared.Image.{Image}
+use Rattle.fk_image.specs.declared.event.Event.{Event}
 use Rattle.fk_isa.specs.declared.instruction.Instruction.{Instruction}
 use Rattle.fk_isa.specs.declared.instruction.Instruction.TheVariants.{Lui, Lw, Sw, Addi, Andi, Beq}
 use Rattle.fk_isa.specs.declared.instruction.Instruction.TheVariants.{Bne, AmoAddW}
@@ -14,24 +15,24 @@ use Rattle.fk_sim_nodes.specs.Phase.{Phase, Outside, Away, Coming, Waiting, Leav
 use Rattle.fk_sim_nodes.specs.Phase.{word_after}
 use Rattle.fk_sim_block.specs.Stands.{zero_register}
 use Rattle.fk_gen.specs.Registers.{t0, t1}
-use Rattle.fk_gen.specs.Lines.{quiet, commits}
+use Rattle.fk_gen.specs.Lines.{quiet, commits_as}
 use Rattle.fk_gen.specs.InPlace.{LinesAt}
 use Rattle.fk_sim_block.specs.Node.{control_address, root_words}
 
 -- Where harts meet: a register with the address of the arrival word, one with the number of
--- members, and whether leaving is the operation.
+-- members, and the event that leaving is, if it is the operation.
 pub record Meeting : Type 0 where
   pub arrivals : ℕ
   pub size : ℕ
-  pub commits : Bool
+  pub leaving : Option Event
 
-abbrev pub leaving_line : Bool → Instruction → MarkedLine
-leaving_line true i = commits i
-leaving_line false i = quiet i
+abbrev pub leaving_line : Option Event → Instruction → MarkedLine
+leaving_line (Some event) i = commits_as event i
+leaving_line None i = quiet i
 
-abbrev pub count_of_leaving : Bool → ℕ
-count_of_leaving true = 1
-count_of_leaving false = 0
+abbrev pub count_of_leaving : Option Event → ℕ
+count_of_leaving (Some event) = 1
+count_of_leaving None = 0
 
 -- The device at 0x30000010 gives the number of cycles finished. The first six lines take 5 or 6
 -- cycles, so that the addition comes in an even cycle. The load then comes in odd cycles, and so
@@ -42,7 +43,7 @@ meeting_lines g =
     quiet (Addi t1 zero_register 1) ∷
     quiet (Beq t0 zero_register 8) ∷ quiet (Addi zero_register zero_register 0) ∷
     quiet (AmoAddW zero_register g.arrivals t1 false false) ∷ quiet (Lw t0 g.arrivals 0) ∷
-    quiet (Bne t0 g.size (2 ^ 32 - 4)) ∷ leaving_line g.commits (Sw g.arrivals zero_register 0) ∷ []
+    quiet (Bne t0 g.size (2 ^ 32 - 4)) ∷ leaving_line g.leaving (Sw g.arrivals zero_register 0) ∷ []
 
 -- The lines don't write the two registers of the meeting.
 pub record IsMeeting (g : Meeting) : Type 0 where
@@ -105,7 +106,7 @@ module _ (g : Meeting) where
     Continues t number v f f' h = IsInPhase (later t) number f' h
 
   abbrev pub count_for : Phase → ℕ
-  count_for (Leaving zero) = count_of_leaving g.commits
+  count_for (Leaving zero) = count_of_leaving g.leaving
   count_for f = 0
 
   -- The turn of a member in its phase touches the arrival word alone.

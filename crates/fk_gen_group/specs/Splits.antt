@@ -6,19 +6,21 @@ use Rattle.fk_meaning_operation.specs.declared.operation.SplitKind.TheVariants.{
 use Rattle.fk_meaning_operation.specs.declared.operation.SplitKind.TheVariants.{AndThen, OrElse}
 use Rattle.fk_meaning_operation.specs.declared.operation.SplitKind.TheVariants.{Loop, Fork}
 use Rattle.fk_image.specs.declared.Image.{Image}
+use Rattle.fk_image.specs.declared.event.Event.{Event}
+use Rattle.fk_image.specs.declared.event.Event.TheVariants as events
 use Rattle.fk_isa.specs.declared.instruction.Instruction.{Instruction}
 use Rattle.fk_isa.specs.declared.instruction.Instruction.TheVariants.{Lui, Jal, Jalr, Bne, Bgeu, Lw}
-use Rattle.fk_isa.specs.declared.instruction.Instruction.TheVariants.{Sw, Addi, Sltiu, Slli, Srli, Add}
-use Rattle.fk_isa.specs.declared.instruction.Instruction.TheVariants.{Sub, Sltu, Mul, Divu}
+use Rattle.fk_isa.specs.declared.instruction.Instruction.TheVariants.{Sw, Addi, Sltiu, Slli, Srli}
+use Rattle.fk_isa.specs.declared.instruction.Instruction.TheVariants.{Add, Sub, Sltu, Mul, Divu}
 use Rattle.fk_isa.specs.declared.instruction.Instruction.TheVariants.{Andi, AmoAddW}
 use Rattle.fk_asm.specs.Assembly.{straight}
 use Rattle.fk_asm.specs.Block.{MarkedLine}
 use Rattle.fk_sim_block.specs.Stands.{zero_register, frame_register, end_register, number_register}
 use Rattle.fk_sim_block.specs.Stands.{rank_register, size_register, device_register}
-use Rattle.fk_sim_block.specs.Node.{node_register, frames_register, blocks_register}
-use Rattle.fk_sim_block.specs.Node.{barrier_word, closing_word}
+use Rattle.fk_sim_block.specs.Node.{node_register, frames_register, blocks_register, barrier_word}
+use Rattle.fk_sim_block.specs.Node.{closing_word}
 use Rattle.fk_gen.specs.Registers.{ra, t0, t1, t2, t3, t4, t5, t6}
-use Rattle.fk_gen.specs.Lines.{quiet, commits, goes_to, commit_of, at_private, label_of}
+use Rattle.fk_gen.specs.Lines.{quiet, commits_as, goes_to, commit_of, at_private, label_of}
 use Rattle.fk_gen.specs.Lines.{high_part, low_part, at_value, add_number}
 use Rattle.fk_gen.specs.Operands.{operand, result}
 use Rattle.fk_gen.specs.InPlace.{LinesAt}
@@ -32,11 +34,18 @@ minus n = 2 ^ 32 - n
 abbrev pub level_word : Levels → (count : ℕ) → ℕ
 level_word levels count = levels.behind + 4 * count
 
--- Without room the site goes to the device that faults.
-abbrev pub no_room : (site : ℕ) → List MarkedLine
-no_room site =
+-- The line of an instruction that may do the operation, which may be an event.
+abbrev pub with_commit : Bool → Option Event → Instruction → MarkedLine
+with_commit commits event i = record { line = straight i; commit = commit_of commits event }
+
+-- Without room the site goes to the device that faults. The operation is an event, or none.
+abbrev pub no_room : Option Event → (site : ℕ) → List MarkedLine
+no_room event site =
     quiet (Lui t1 (high_part site)) ∷ quiet (Addi t1 t1 (low_part site))
-    ∷ commits (Sw device_register t1 8) ∷ []
+    ∷ with_commit true event (Sw device_register t1 8) ∷ []
+
+abbrev pub no_parts : (site : ℕ) → List MarkedLine
+no_parts site = no_room (Some events.Split) site
 
 -- ---- splits
 
@@ -75,7 +84,7 @@ parts_label by = one_part_label
 abbrev pub parting_lines : (label word target site : ℕ) → List MarkedLine
 parting_lines label word target site =
     quiet (Addi t2 frame_register (at_private word)) ∷ goes_to (Jal ra 0) label ∷
-    goes_to (Jal zero_register 0) (label_of target) ∷ no_room site
+    goes_to (Jal zero_register 0) (label_of target) ∷ no_parts site
 
 -- Who enters a part of the first `fork` of a call has in t3 the address of the first control word
 -- after the frames of the group, and stores it in the header.
@@ -140,7 +149,7 @@ counting_lines register =
     quiet (Sw t1 zero_register (4 * barrier_word)) ∷
     quiet (AmoAddW zero_register t1 register false false) ∷
     quiet (Lw t0 t1 (4 * barrier_word))
-    ∷ commits (Sw t1 zero_register (4 * barrier_word)) ∷ []
+    ∷ commits_as events.Split (Sw t1 zero_register (4 * barrier_word)) ∷ []
 
 -- A member that enters saves the level of its group, and has the node, the size and the space of
 -- its part.
@@ -187,6 +196,12 @@ fork_lines =
     fork_room ++ (fork_place ++ (counting_lines t3 ++ (waiting_lines ++ (fork_saving
     ++ into_one_part))))
 
+-- What all splits of a kind share.
+abbrev pub parts_lines : SplitKind → List MarkedLine
+parts_lines IfElse = two_parts_lines
+parts_lines Fork = fork_lines
+parts_lines by = one_part_lines
+
 -- The image has this code, at its labels.
 pub record HasParts (image : Image) (bound : ℕ → ℕ) : Type 0 where
   pub one : LinesAt image bound (bound one_part_label) one_part_lines
@@ -195,14 +210,10 @@ pub record HasParts (image : Image) (bound : ℕ → ℕ) : Type 0 where
 
 -- ---- the way out of a part
 
--- The line of an instruction that may do the operation.
-abbrev pub with_commit : Bool → Instruction → MarkedLine
-with_commit commits i = record { line = straight i; commit = commit_of commits }
-
 -- The group around a part: its size, its node and its space.
 abbrev pub outward_lines : (commits : Bool) → (word target : ℕ) → List MarkedLine
 outward_lines commits word target =
-    with_commit commits (Lw size_register frame_register (at_private word))
+    with_commit commits (Some events.End) (Lw size_register frame_register (at_private word))
     ∷ quiet (Lw node_register frame_register (at_private (word + 1)))
     ∷ quiet (Lw blocks_register frame_register (at_private (word + 2)))
     ∷ quiet (Lw frames_register frame_register (at_private (word + 3)))
@@ -213,8 +224,8 @@ abbrev pub last_level : Levels → ℕ
 last_level levels = level_word levels (levels.count - 1)
 
 -- The group around a part of a `fork`: its size and `@`, its node, its blocks, `$`, and where its
--- frames end. That is in the header at the first level of a call. Else the frame of the group has so
--- many words.
+-- frames end. That is in the header at the first level of a call. Else the frame of the group has
+-- so many words.
 abbrev pub header_frames : List MarkedLine
 header_frames = quiet (Lw frames_register end_register (at_value 60)) ∷ []
 
@@ -229,7 +240,7 @@ frames_end count words = if count == 1 then header_frames else frames_sum words
 
 abbrev pub forked_front : (word : ℕ) → List MarkedLine
 forked_front word =
-    commits (Lw size_register frame_register (at_private word)) ∷
+    commits_as events.End (Lw size_register frame_register (at_private word)) ∷
     quiet (Srli number_register size_register 11) ∷
     quiet (Andi size_register size_register 2047) ∷
     quiet (Lw node_register frame_register (at_private (word + 1))) ∷
@@ -261,7 +272,7 @@ staying_lines d =
     quiet (operand t3 d) ∷ quiet (Sltu t3 zero_register t3) ∷
     quiet (AmoAddW zero_register node_register t3 false false) ∷
     quiet (Lw t0 node_register (4 * barrier_word)) ∷
-    commits (Sw node_register zero_register (4 * barrier_word))
+    commits_as events.Shrink (Sw node_register zero_register (4 * barrier_word))
     ∷ quiet (Bne t3 zero_register 24) ∷ []
 
 abbrev pub size_line : List MarkedLine

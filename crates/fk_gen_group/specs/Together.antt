@@ -88,7 +88,7 @@ module _ (g : Meeting) (image : Image) (bound : ℕ → ℕ) (w n : ℕ) where
   LeaveAfter mine d t cs ms own =
       NodeRun image mine t d ms own
       (λ ms' own'. NodeCycle image mine (in_cycles d t)
-      (count_of_leaving g.commits) ms' own' (λ ms'' own''. HaveMet cs own ms'' own''))
+      (count_of_leaving g.leaving) ms' own' (λ ms'' own''. HaveMet cs own ms'' own''))
 
 -- The turns of a cycle are moves of those who meet at an arrival word, whatever others do that
 -- leave it as it is. So the laws of meetings say when all leave, and that none leaves before all

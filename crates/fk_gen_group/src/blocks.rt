@@ -18,6 +18,7 @@ use fk_gen::registers::{
 };
 use fk_gen::{BlockLine, Levels, Placed, emit_lines, emit_sum, operand, result};
 use fk_gen_flow::registers::{BLOCKS, BODY, FRAMES, NODE};
+use fk_image::Event;
 use fk_isa::Instruction;
 use fk_meaning_operation::Operation;
 use std::alloc::AllocError;
@@ -63,9 +64,9 @@ impl Blocks<Placed> for GroupBlocks {
             Some(Operation::Farm) => farm(into),
             Some(Operation::Seq) => seq(into, op.op.target),
             Some(Operation::End) => end_group(into, op.levels, op.op.target),
-            Some(Operation::Resume) => meet(into, CLOSING_WORD, SIZE),
-            Some(Operation::Meet(true)) => meet(into, CLOSING_WORD, SIZE),
-            Some(Operation::Meet(false)) => meet(into, BARRIER_WORD, BODY),
+            Some(Operation::Resume) => meet(into, Event::Resume, CLOSING_WORD, SIZE),
+            Some(Operation::Meet(true)) => meet(into, Event::Meet, CLOSING_WORD, SIZE),
+            Some(Operation::Meet(false)) => meet(into, Event::Meet, BARRIER_WORD, BODY),
             Some(Operation::Frame { nesting, words }) => frame(into, nesting, words, op.op.site),
             Some(Operation::Block) => shalloc(into, op.op.depth),
             Some(Operation::Split(by)) => {
@@ -77,15 +78,15 @@ impl Blocks<Placed> for GroupBlocks {
     }
 }
 
-// A meeting at a control word of the node. A register has the number of its members. Arrivals come
-// in even cycles, and polls in odd ones.
-fn meet(into: &mut Assembler, word: u32, size: u8) -> Result<(), AllocError>
+// A meeting at a control word of the node, and the event that leaving it is. A register has the
+// number of its members. Arrivals come in even cycles, and polls in odd ones.
+fn meet(into: &mut Assembler, event: Event, word: u32, size: u8) -> Result<(), AllocError>
     requires word { word < 8 }
     requires size { size < 32 }
     requires room { length into.old.lines + 11 < 2 ^ 30 }
     requires free { AreFollowed into.old }
-    ensures added { OnOk result (into.new ≡ with_block into.old (meet_block word size)) }
-    ensures begun { OnErr result (HasBegun (meet_block word size) into.old into.new) }
+    ensures added { OnOk result (into.new ≡ with_block into.old (meet_block event word size)) }
+    ensures begun { OnErr result (HasBegun (meet_block event word size) into.old into.new) }
 {
     emit_lines(
         into,
@@ -100,7 +101,7 @@ fn meet(into: &mut Assembler, word: u32, size: u8) -> Result<(), AllocError>
             BlockLine::quiet(Instruction::AmoAddW(ZERO, T2, T1, false, false)),
             BlockLine::quiet(Instruction::Lw(T0, T2, 0)),
             BlockLine::quiet(Instruction::Bne(T0, size, 0xffff_fffc)),
-            BlockLine::commits(Instruction::Sw(T2, ZERO, 0)),
+            BlockLine::commits_as(event, Instruction::Sw(T2, ZERO, 0)),
         ],
     )
 }
@@ -137,7 +138,7 @@ fn agree(into: &mut Assembler, depth: u32) -> Result<(), AllocError>
         &[
             BlockLine::quiet(operand(T0, depth)),
             BlockLine::quiet(Instruction::Sw(NODE, T0, AGREED)),
-            BlockLine::commits(Instruction::Lw(T0, NODE, AGREED)),
+            BlockLine::commits_as(Event::Agree, Instruction::Lw(T0, NODE, AGREED)),
             BlockLine::quiet(result(T0, depth)),
         ],
     )
@@ -207,7 +208,7 @@ fn end(into: &mut Assembler, target: u32) -> Result<(), AllocError>
     emit_lines(
         into,
         &[
-            BlockLine::commits(Instruction::Addi(NUMBER, ZERO, 0)),
+            BlockLine::commits_as(Event::End, Instruction::Addi(NUMBER, ZERO, 0)),
             BlockLine::quiet(Instruction::Lui(T0, DEVICES)),
             BlockLine::quiet(Instruction::Lw(RANK, T0, NUMBER_DEVICE)),
             BlockLine::quiet(Instruction::Lw(SIZE, T0, HARTS_DEVICE)),

@@ -3,6 +3,7 @@
 ghost use Rattle.fk_gen_group.specs.Meeting.{HartsArrive, HartsMove};
 ghost use Rattle.fk_gen_group.specs.Together.{TurnsAreMoves, MembersLeaveTogether};
 ghost use Rattle.fk_gen_group.specs.Together.{MembersLeaveInTen};
+ghost use Rattle.fk_gen_group.specs.Events.{BlocksAreMarked};
 ghost use Rattle.fk_gen_group.specs.Chains.{MeetersHaveChains};
 ghost use Rattle.fk_gen_group.specs.InNode.{LoneBlocksStayInNode, JumpsStayInNode};
 ghost use Rattle.fk_gen_group.specs.Laws.{BlocksMeet, GroupsAgree, GroupsEnd, GroupsSendOne};
@@ -110,8 +111,9 @@ pub fn parts_shrink()
     ensures { PartsShrink }
 {}
 
-/// Members of a part that come to its end commit in that cycle. Four cycles later each is where
-/// those wait who are around the part, with their size, control words and space.
+/// Members of a part that come to its end commit in that cycle. After it all take equally many
+/// cycles, four or at most ten if a `fork` made the part. Then each is where those wait who are
+/// around the part, with their `@`, `$`, size, control words and space.
 pub fn parts_end()
     ensures { PartsEnd }
 {}
@@ -139,4 +141,10 @@ pub fn members_leave_in_ten()
 /// count of its phase.
 pub fn meeters_have_chains<S, P, D>()
     ensures { MeetersHaveChains S P D }
+{}
+
+/// Each commit in the block of an operation is the event that the operation is, or no event if it
+/// is none. The code that beginnings of `start` share commits a split, and so does that of splits.
+pub fn blocks_are_marked()
+    ensures { BlocksAreMarked }
 {}

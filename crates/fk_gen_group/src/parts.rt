@@ -12,6 +12,7 @@ use fk_asm::Assembler;
 use fk_gen::registers::{NUMBER, RA, RANK, SIZE, T0, T1, T2, T3, T4, T5, T6, ZERO};
 use fk_gen::{BlockLine, emit_lines};
 use fk_gen_flow::registers::{BLOCKS, FRAMES, NODE};
+use fk_image::Event;
 use fk_isa::Instruction;
 use std::alloc::AllocError;
 
@@ -122,7 +123,7 @@ fn emit_counting(into: &mut Assembler, register: u8) -> Result<(), AllocError>
             BlockLine::quiet(Instruction::Sw(T1, ZERO, BARRIER)),
             BlockLine::quiet(Instruction::AmoAddW(ZERO, T1, register, false, false)),
             BlockLine::quiet(Instruction::Lw(T0, T1, BARRIER)),
-            BlockLine::commits(Instruction::Sw(T1, ZERO, BARRIER)),
+            BlockLine::commits_as(Event::Split, Instruction::Sw(T1, ZERO, BARRIER)),
         ],
     )
 }

@@ -1,10 +1,12 @@
 //! The blocks of splits, of the ends of parts, and of loops that shrink.
 
-ghost use Rattle.std.specs.Prelude.{◌≡◌, ◌+◌, ◌*◌, ◌^◌, ◌<◌, ◌≤◌, All, OnOk, OnErr, None, length, map};
+ghost use Rattle.std.specs.Prelude.{◌≡◌, ◌+◌, ◌*◌, ◌^◌, ◌<◌, ◌≤◌, All, OnOk, OnErr, None, length};
+ghost use Rattle.std.specs.Prelude.{map, Some};
 ghost use Rattle.fk_asm.specs.Assembly.{AreFollowed, straight};
 ghost use Rattle.fk_asm.specs.Block.{GoesToMade, HasBegun, with_block};
 ghost use Rattle.fk_gen.specs.Lines.{quiet};
 ghost use Rattle.fk_gen_group.specs.Blocks.{HasFewWords};
+ghost use Rattle.fk_image.specs.declared.event.Event.TheVariants as events;
 ghost use Rattle.fk_gen_group.specs.Splits as s;
 ghost use Rattle.fk_meaning.specs.Group.{taken_by};
 ghost use Rattle.fk_meaning_operation.specs.declared.operation.SplitKind.TheVariants as o;
@@ -17,6 +19,7 @@ use fk_gen::registers::{
 };
 use fk_gen::{BlockLine, Levels, emit_lines, emit_sum, operand, result};
 use fk_gen_flow::registers::{BLOCKS, FRAMES, NODE};
+use fk_image::Event;
 use fk_isa::Instruction;
 use fk_meaning_operation::SplitKind;
 use std::alloc::AllocError;
@@ -215,7 +218,7 @@ fn emit_way(
             BlockLine::goes_to(Instruction::Jal(ZERO, 0), FIRST_LABEL + target),
             BlockLine::quiet(Instruction::Lui(T1, high_part(site))),
             BlockLine::quiet(Instruction::Addi(T1, T1, low_part(site))),
-            BlockLine::commits(Instruction::Sw(DEVICES, T1, FAULT_DEVICE)),
+            BlockLine::commits_as(Event::Split, Instruction::Sw(DEVICES, T1, FAULT_DEVICE)),
         ],
     )
 }
@@ -316,7 +319,7 @@ fn emit_forked(into: &mut Assembler, word: u32) -> Result<(), AllocError>
     emit_lines(
         into,
         &[
-            BlockLine::commits(Instruction::Lw(SIZE, FRAME, at_private(word))),
+            BlockLine::commits_as(Event::End, Instruction::Lw(SIZE, FRAME, at_private(word))),
             BlockLine::quiet(Instruction::Srli(NUMBER, SIZE, 11)),
             BlockLine::quiet(Instruction::Andi(SIZE, SIZE, 2047)),
             BlockLine::quiet(Instruction::Lw(NODE, FRAME, at_private(word + 1))),
@@ -378,9 +381,13 @@ fn emit_header_frames(into: &mut Assembler) -> Result<(), AllocError>
     )
 }
 
-// A line that may do the operation.
+// A line that may do the operation, which ends a part.
 fn with_commit(commits: bool, instruction: Instruction) -> BlockLine
-    ensures { result ≡ record { line = straight instruction; commits = commits } }
+    ensures { result ≡ record {
+      line = straight instruction;
+      commits = commits;
+      event = Some events.End;
+    } }
 {
     BlockLine {
         line: Line {
@@ -388,6 +395,7 @@ fn with_commit(commits: bool, instruction: Instruction) -> BlockLine
             label: None,
         },
         commits,
+        event: Some(Event::End),
     }
 }
 
@@ -461,7 +469,7 @@ fn emit_staying(into: &mut Assembler, depth: u32) -> Result<(), AllocError>
             BlockLine::quiet(Instruction::Sltu(T3, ZERO, T3)),
             BlockLine::quiet(Instruction::AmoAddW(ZERO, NODE, T3, false, false)),
             BlockLine::quiet(Instruction::Lw(T0, NODE, 0)),
-            BlockLine::commits(Instruction::Sw(NODE, ZERO, 0)),
+            BlockLine::commits_as(Event::Shrink, Instruction::Sw(NODE, ZERO, 0)),
             BlockLine::quiet(Instruction::Bne(T3, ZERO, 24)),
         ],
     )

@@ -12,6 +12,7 @@ use fk_gen::numbers::{high_part, low_part};
 use fk_gen::registers::{DEVICES, RA, RANK, SIZE, T0, T1, T2, T3, ZERO};
 use fk_gen::{BlockLine, emit_lines};
 use fk_gen_flow::registers::{BLOCKS, FRAMES, NODE};
+use fk_image::Event;
 use fk_isa::Instruction;
 use std::alloc::AllocError;
 
@@ -77,7 +78,7 @@ fn emit_telling(into: &mut Assembler) -> Result<(), AllocError>
         into,
         &[
             BlockLine::quiet(Instruction::Sw(NODE, T3, AGREED)),
-            BlockLine::commits(Instruction::Lw(T3, NODE, AGREED)),
+            BlockLine::commits_as(Event::Split, Instruction::Lw(T3, NODE, AGREED)),
         ],
     )
 }

@@ -29,6 +29,7 @@ use Rattle.fk_gen_list.proofs.Laid.{places, has_labels, has_opening, has_shared,
 use Rattle.fk_gen_list.proofs.AllPlaced.{placed_get, all_from}
 use Rattle.fk_gen_list.proofs.Clears.{few_clears}
 use Rattle.fk_gen_list.proofs.Whole.{assembled}
+use Rattle.fk_gen_list.proofs.Told.{all_told}
 use Rattle.fk_gen_list.proofs.Suited.{back_within, has_block_of, has_operands, jump_has}
 use Rattle.fk_gen_list.proofs.BlockLaws.{AreInRange, law_of_blocks}
 
@@ -105,37 +106,40 @@ module _ (core : List CoreOp) (kept : List Set) (saved : List Levels) (main : �
           block,
           (
             bound,
-            record {
-              opening = record {
-                labels = has_labels block_of opening globals ops a laid image built returns frames;
-                lines = subst (λ n. LinesAt image bound 0 (opening_lines n firsts main)) (sym of_file) (has_opening block_of opening globals ops a laid image built);
-              };
-              returns = λ i. refl;
-              blocks = λ i op at.
-                  subst (λ n. HasBlock image bound there i (block_of (placed core n kept saved i op))) (sym has.globals_of)
-                  (has_block block_of opening globals ops a laid image built returns frames i (placed core globals kept saved i op) (placed_get core globals kept saved 0 i i op core at (omega arith)));
-              shared = has_shared block_of opening globals ops a laid image built;
-              start = record {
-                few = let e = has.globals_of in omega arith;
-                lines = subst (λ n. LinesAt image bound (bound start_label) (start_lines n)) (sym has.globals_of) (has_start block_of opening globals ops a laid image built);
-              };
-              heap = record {
-                few = let e = has.globals_of in omega arith;
-                lines = subst (λ n. LinesAt image bound (bound heap_label) (heap_lines n)) (sym has.globals_of) (has_heap block_of opening globals ops a laid image built);
-              };
-              parts = record {
-                one = has_one_part block_of opening globals ops a laid image built;
-                two = has_two_parts block_of opening globals ops a laid image built;
-                fork = has_fork block_of opening globals ops a laid image built;
-              };
-            },
+            (
+              record {
+                opening = record {
+                  labels = has_labels block_of opening globals ops a laid image built returns frames;
+                  lines = subst (λ n. LinesAt image bound 0 (opening_lines n firsts main)) (sym of_file) (has_opening block_of opening globals ops a laid image built);
+                };
+                returns = λ i. refl;
+                blocks = λ i op at.
+                    subst (λ n. HasBlock image bound there i (block_of (placed core n kept saved i op))) (sym has.globals_of)
+                    (has_block block_of opening globals ops a laid image built returns frames i (placed core globals kept saved i op) (placed_get core globals kept saved 0 i i op core at (omega arith)));
+                shared = has_shared block_of opening globals ops a laid image built;
+                start = record {
+                  few = let e = has.globals_of in omega arith;
+                  lines = subst (λ n. LinesAt image bound (bound start_label) (start_lines n)) (sym has.globals_of) (has_start block_of opening globals ops a laid image built);
+                };
+                heap = record {
+                  few = let e = has.globals_of in omega arith;
+                  lines = subst (λ n. LinesAt image bound (bound heap_label) (heap_lines n)) (sym has.globals_of) (has_heap block_of opening globals ops a laid image built);
+                };
+                parts = record {
+                  one = has_one_part block_of opening globals ops a laid image built;
+                  two = has_two_parts block_of opening globals ops a laid image built;
+                  fork = has_fork block_of opening globals ops a laid image built;
+                };
+              },
+              all_told core kept saved main firsts globals a laid image built frames has.globals_of,
+            ),
           ),
         )
 
     pub does_the_list : DoesTheList core kept main firsts globals code
     does_the_list image frames has suits keeps of_file no_parts =
         let all = stands image frames has of_file in
-        let whole = all.1.1 in
+        let whole = all.1.1.0 in
         let ranges : AreInRange core (length image.globals.items) = record {
           sites = site_few;
           numbers = number_few;

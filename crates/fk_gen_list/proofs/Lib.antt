@@ -13,6 +13,9 @@ pub mod Suited
 -- where calls return
 pub mod Returns
 pub mod BlockLaws
+-- the events of commits
+pub mod Marked
+pub mod Told
 pub mod Done
 pub mod Steps
 -- how many cycles blocks take at most

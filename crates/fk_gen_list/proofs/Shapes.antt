@@ -14,6 +14,8 @@ use Rattle.fk_meaning_operation.specs.declared.operation.Operation.{Operation}
 use Rattle.fk_meaning_operation.specs.declared.operation.Operation.TheVariants as o
 use Rattle.fk_meaning_operation.specs.declared.operation.SplitKind.{SplitKind}
 use Rattle.fk_meaning_operation.specs.declared.operation.SplitKind.TheVariants as split
+use Rattle.fk_image.specs.declared.event.Event.{Event}
+use Rattle.fk_image.specs.declared.event.Event.TheVariants as events
 use Rattle.fk_core.specs.declared.op.CoreOp.{CoreOp}
 use Rattle.fk_core.specs.Next.{is_jump}
 use Rattle.fk_core.specs.Numbers.{operation_of}
@@ -39,7 +41,7 @@ use Rattle.fk_gen_flow.specs.Flow as f
 use Rattle.fk_gen_group.specs.Blocks as group
 use Rattle.fk_gen_group.specs.Splits as splits
 use Rattle.fk_gen_flow.specs.Opening.{register_lines, first_line, first_lines, opening_lines}
-use Rattle.fk_gen_list.specs.Generable.{IsGenerable, HasOwnBlock, most_words, words_by}
+use Rattle.fk_gen_list.specs.Generable.{IsGenerable, most_words, words_by}
 use Rattle.fk_gen_list.specs.declared.kind.Kind.{Kind}
 use Rattle.fk_gen_list.specs.declared.kind.Kind.TheVariants.{Flow, Access, Group, Expression}
 use Rattle.fk_gen_list.specs.Kinds.{kind_of, kind_by, block_in, block_of}
@@ -154,10 +156,10 @@ flow_block_all n clears back op few jumps leads = by (is_jump op) jumps leads
     by true jumps leads = jump_all n op.target (jumps refl)
     by false jumps leads = flow_all n clears back op (operation_of op.kind op.number) few (leads refl)
 
-meet_all : (n word size : ℕ) → All (GoesTo n) (group.meet_block word size)
-meet_all n word size =
-    go_nowhere n (group.meet_block word size)
-    (All-from_recursion IsUnlabeled (group.meet_block word size) (refl, (refl, (refl, (refl, (refl, (refl, (refl, (refl, (refl, (refl, (refl, tt))))))))))))
+meet_all : (n : ℕ) (event : Event) (word size : ℕ) → All (GoesTo n) (group.meet_block event word size)
+meet_all n event word size =
+    go_nowhere n (group.meet_block event word size)
+    (All-from_recursion IsUnlabeled (group.meet_block event word size) (refl, (refl, (refl, (refl, (refl, (refl, (refl, (refl, (refl, (refl, (refl, tt))))))))))))
 
 -- the labels of the code that splits share
 parts_low : (by : SplitKind) → splits.parts_label by ≤ splits.fork_label
@@ -207,9 +209,9 @@ group_all n back levels op (Some o.End) leads = by (levels.count == 0)
     by : (start : Bool) → All (GoesTo n) (if start then group.end_block op.target else splits.end_part_block levels op.target)
     by true = All-from_recursion (GoesTo n) (group.end_block op.target) (tt, (tt, (tt, (tt, (tt, (tt, (jump_goes n op.target leads, tt)))))))
     by false = end_goes n levels op.target (jump_goes n op.target leads) levels.fork
-group_all n back levels op (Some o.Resume) leads = meet_all n 1 20
-group_all n back levels op (Some (o.Meet false)) leads = meet_all n 0 11
-group_all n back levels op (Some (o.Meet true)) leads = meet_all n 1 20
+group_all n back levels op (Some o.Resume) leads = meet_all n events.Resume 1 20
+group_all n back levels op (Some (o.Meet false)) leads = meet_all n events.Meet 0 11
+group_all n back levels op (Some (o.Meet true)) leads = meet_all n events.Meet 1 20
 group_all n back levels op (Some (o.Frame nesting words)) leads =
     go_nowhere n (group.frame_block nesting words op.site)
     (All-append IsUnlabeled (map quiet (add_number (4 * words) 12)) (group.frame_lines nesting op.site) (quiet_all (add_number (4 * words) 12))

@@ -35,5 +35,5 @@ gives_group_law core kept saved main firsts globals is few code stands image fra
       globals = let e = has.globals_of in omega arith;
     } in
     let law = code_has_the_law core kept saved image all.1.0 places firsts main forks suits keeps ranges looks
-    (record { few = suits.few; within = omega arith; words = is.first_words }) tells (levels all.0 start) (generated_code_is_whole core kept saved image all.1.0 places firsts main all.1.1) in
+    (record { few = suits.few; within = omega arith; words = is.first_words }) tells (levels all.0 start) (generated_code_is_whole core kept saved image all.1.0 places firsts main all.1.1.0) in
     (all.0, start, subst (λ n. GroupLaw core image places (nestings_of saved forks start) (cycles_of core n kept saved) firsts main) has.globals_of law)

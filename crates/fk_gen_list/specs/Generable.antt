@@ -26,6 +26,7 @@ use Rattle.fk_gen_flow.specs.Opening.{HasOpening}
 use Rattle.fk_gen_group.specs.Blocks.{HasStart, HasLevelWords, HasSplitValues, is_group_step}
 use Rattle.fk_gen_group.specs.Splits.{HasParts}
 use Rattle.fk_gen_list.specs.Kinds.{block_of}
+use Rattle.fk_gen_list.specs.Events.{TellEvents}
 use Rattle.fk_gen.specs.Levels.{levels_in}
 use Rattle.fk_gen_list.specs.Layout.{placed}
 
@@ -144,10 +145,12 @@ pub record HasWholeCode (core : List CoreOp) (kept : List Set) (saved : List Lev
   pub heap : HasHeap image bound
   pub parts : HasParts image bound
 
--- Each image with this code has all of it, with each label bound to a word.
+-- Each image with this code has all of it, with each label bound to a word, and each of its commits
+-- tells the event of its operation.
 abbrev pub GivesWholeCode : (core : List CoreOp) (kept : List Set) (saved : List Levels)
     (main : ℕ) (firsts : List ℕ) (globals : ℕ) → Code → Type 0
 GivesWholeCode core kept saved main firsts globals code =
     (image : Image) (frames : Frames) → HasCode code globals image → frames.of_file ≡ length firsts
     → (block : (index : ℕ) → ℕ) × ((bound : (label : ℕ) → ℕ)
-    × HasWholeCode core kept saved image bound (places_in core block frames) firsts main)
+    × (HasWholeCode core kept saved image bound (places_in core block frames) firsts main
+    × TellEvents core image bound (places_in core block frames)))

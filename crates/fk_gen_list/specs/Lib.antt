@@ -1,5 +1,6 @@
 pub mod Layout
 pub mod Kinds
+pub mod Events
 pub mod Generable
 pub mod Cycles
 pub mod Laws

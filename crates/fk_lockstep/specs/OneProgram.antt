@@ -20,9 +20,9 @@ abbrev pub groups_of : Processor → List (ℕ × ℕ)
 groups_of p = map (λ l. (l.number, l.size)) (p.level ∷ p.outer)
 
 module _ {W : Type 0} (next : W → Option (Step W)) where
-  -- two members of a group in lockstep have the same work left, before a branch the same last value,
-  -- and before a split the same number of parts. They have the same `@` and sizes of their groups,
-  -- and `groupsize()` is the number of members
+  -- two members of a group in lockstep have the same work left, before a branch the same last
+  -- value, and before a split the same number of parts. They have the same `@` and sizes of their
+  -- groups, and `groupsize()` is the number of members
   pub record AreTogether (s : State W) (n : ℕ) (r q : Runner W) : Type 0 where
     pub left : r.left ≡ q.left
     pub branch : (step : Step W) (onward : Bool) → next r.left ≡ Some step

@@ -1,6 +1,6 @@
 -- The functions and the parts that a processor is in, with the group frames that it took there.
-use Rattle.std.specs.Prelude.{◌≡◌, ℕ, zero, suc, ◌+◌, ◌-◌, ◌^◌, ◌==◌, ◌||◌, nat_lt, Bool, true, false}
-use Rattle.std.specs.Prelude.{List, [], ◌∷◌, Option, Some, None, is_some, if◌then◌else◌}
+use Rattle.std.specs.Prelude.{◌≡◌, ℕ, zero, suc, ◌+◌, ◌-◌, ◌^◌, ◌==◌, ◌||◌, nat_lt, Bool, true}
+use Rattle.std.specs.Prelude.{false, List, [], ◌∷◌, Option, Some, None, is_some, if◌then◌else◌}
 use Rattle.fk_meaning_operation.specs.declared.operation.SplitKind.{SplitKind}
 use Rattle.fk_meaning_operation.specs.declared.operation.SplitKind.TheVariants.{IfElse, Fork}
 use Rattle.fk_meaning_operation.specs.declared.operation.Operation.{Operation}
@@ -9,8 +9,9 @@ use Rattle.fk_meaning.specs.Behind.{tail}
 use Rattle.fk_meaning.specs.Round.{Step}
 
 -- a function or a part that a processor is in, and the words of the group frame that it took there,
--- if it took one. The group of a `start` is a part too. In a numbered part, that of a `start` or of a
--- `fork`, members have an `@` and a `$` of their own; in others they have those of the group around
+-- if it took one. The group of a `start` is a part too. In a numbered part, that of a `start` or of
+-- a `fork`, members have an `@` and a `$` of their own; in others they have those of the group
+-- around
 pub data Nest : Type 0 where
   OfFunction : (frame : Option ℕ) → Nest
   OfPart : (numbered : Bool) → (frame : Option ℕ) → Nest
@@ -37,8 +38,8 @@ nesting (OfFunction frame ∷ nests) = 0
 nesting (OfPart numbered frame ∷ nests) = suc (nesting nests)
 
 -- how many levels the frame of a call has: one for each group around its own that the function made
--- itself, by a part. Around the group of a `start`, which is in `main`, there is the root, whose level
--- isn't saved
+-- itself, by a part. Around the group of a `start`, which is in `main`, there is the root, whose
+-- level isn't saved
 abbrev pub levels_of : (main : Bool) → List Nest → ℕ
 levels_of main nests = nesting nests - (if main then 1 else 0)
 

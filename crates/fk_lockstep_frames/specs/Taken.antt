@@ -1,6 +1,6 @@
 -- What the frames of a processor have taken of the spaces of its groups.
-use Rattle.std.specs.Prelude.{◌≡◌, ℕ, suc, ◌+◌, ◌^◌, ◌<◌, ◌≤◌, true, false, List, [], ◌∷◌, map, drop}
-use Rattle.std.specs.Prelude.{Option, Some, None, slice_get}
+use Rattle.std.specs.Prelude.{◌≡◌, ℕ, suc, ◌+◌, ◌^◌, ◌<◌, ◌≤◌, true, false, List, [], ◌∷◌, map}
+use Rattle.std.specs.Prelude.{drop, Option, Some, None, slice_get}
 use Rattle.fk_num.specs.Word.{Memory}
 use Rattle.fk_space.specs.Space.{Space, IsSpace}
 use Rattle.fk_meaning_operation.specs.declared.operation.OwnValue.TheVariants.{FrameAddress}
@@ -9,11 +9,11 @@ use Rattle.fk_meaning.specs.Processor.{Level, Processor, Setting, setting_of, gr
 use Rattle.fk_meaning.specs.Local.{known}
 use Rattle.fk_meaning.specs.Round.{Step, Runner}
 use Rattle.fk_meaning.specs.Schedule.{Schedule, opening, run}
-use Rattle.fk_lockstep_frames.specs.Nests.{Nest, OfFunction, OfPart, nesting, words_in}
-use Rattle.fk_lockstep_frames.specs.Nests.{is_numbered, has_word, taken, outward, IsTold}
+use Rattle.fk_lockstep_frames.specs.Nests.{Nest, OfFunction, OfPart, nesting, words_in, is_numbered}
+use Rattle.fk_lockstep_frames.specs.Nests.{has_word, taken, outward, IsTold}
 
--- the spaces of a processor's groups, the first word of each, their `@` and `$`, and the first words
--- of the frames of its calls by their numbers; the innermost ones come first
+-- the spaces of a processor's groups, the first word of each, their `@` and `$`, and the first
+-- words of the frames of its calls by their numbers; the innermost ones come first
 abbrev pub spaces_of : Processor → List Space
 spaces_of p = map (λ l. l.space) (p.level ∷ p.outer)
 

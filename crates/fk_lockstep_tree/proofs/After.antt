@@ -16,7 +16,7 @@ use Rattle.fk_tree.proofs.Lists.{length-below}
 use Rattle.fk_tree.proofs.Shapes.{with_same, members-turned, parent-turned, kind-turned, kind-node_of, parent-node_of, from_within, from_below, has_some}
 use Rattle.fk_meaning.specs.Processor.{Level, Processor, Setting, values, last, drop_last, enter_level, to_outer, leave_level, group_space}
 use Rattle.fk_meaning.specs.Schedule.{first_level}
-use Rattle.fk_meaning.specs.Group.{not_negative, is_taken, start_level, parts, part, part_level, divided, with_size, stays, enters, does, goes_onward}
+use Rattle.fk_meaning.specs.Group.{not_negative, is_taken, start_level, parts, part, divided, with_size, stays, enters, does, goes_onward}
 use Rattle.fk_meaning.specs.Round.{Step, Runner, State, Round, Acting, lowest, agreed, settled_by, settled, body_of, result}
 use Rattle.fk_lockstep.specs.Untouched.{changes_tree}
 use Rattle.fk_lockstep.proofs.Changes.{few}

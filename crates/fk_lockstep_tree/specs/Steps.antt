@@ -13,8 +13,8 @@ use Rattle.fk_meaning.specs.Round.{Acting, lowest, who}
 use Rattle.fk_lockstep_nodes.specs.Steps.{StepsBy, MayStep}
 
 -- the nodes at which steps may change the tree: all processors begin in the root; those who wait
--- for parts resume; a group splits, shrinks if it isn't that of a `start`, comes to a body, or ends;
--- and the processors that have a body meet
+-- for parts resume; a group splits, shrinks if it isn't that of a `start`, comes to a body, or
+-- ends; and the processors that have a body meet
 abbrev pub StepFits : Tree → (g : ℕ) → Operation → Type 0
 StepFits tree g o.Begin = (g ≡ 0) × (t.kind tree g ≡ Some (Asynchronous false))
 StepFits tree g o.Resume =

@@ -19,7 +19,6 @@ use Rattle.fk_meaning_forms.specs.Expressions.{Coded, ResultLocation, Signature,
 use Rattle.fk_meaning_forms.specs.Statements.{Inside, is_nothing, is_scalar, used, used_or, value_or, declared, all_declared, part_frame, leaving, tested, looping, left_by, executed, all_executed, end_of, body_of}
 use Rattle.fk_meaning_forms.specs.Program.{signature_in, is_main, code_of}
 use Rattle.fk_meaning.specs.Shape.{splits}
-use Rattle.fk_meaning.proofs.Kept.{entered}
 use Rattle.fk_meaning.proofs.Spine.{untrue}
 use Rattle.fk_lockstep.proofs.Kept as k
 use Rattle.fk_lockstep.proofs.Kept.{all_agree, is_quiet, IsKept}

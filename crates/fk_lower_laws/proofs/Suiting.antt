@@ -312,12 +312,12 @@ module _ (bodies : ℕ → Code ℕ) (core : List CoreOp) (entry : ℕ → ℕ) 
 
     -- where `main` begins
     opened_main : (main : ℕ) → place_of main ≡ Main → frame_of main ≡ None → (is_done (bodies main) ≡ true) ⊎ (is_closed (bodies main) ≡ true) → (at (entry main)).state.place ≡ entered Main
-    opened_main main is none (inl d) =
+    opened_main main is frameless (inl d) =
         ap (λ i. (at i).state.place) (typed.flat.begins main ∙ label_done (bodies main) None (typed.flat.place main) (length core) d)
         ∙ ap (λ (s : Sized). s.state.place) (at_end bodies core entry place_of frame_of typed sys lawful judged bare_main)
-    opened_main main is none (inr c) =
+    opened_main main is frameless (inr c) =
         sym (entries bodies core entry place_of frame_of typed sys lawful judged bare_main true tall.depth heights main c).grants.state.place
-        ∙ ap (λ kind. with_frame kind (frame_of main)) is ∙ ap (with_frame Main) none
+        ∙ ap (λ kind. with_frame kind (frame_of main)) is ∙ ap (with_frame Main) frameless
 
     few_firsts : (main : ℕ) → place_of main ≡ Main → firsts ≤ 56
     few_firsts main is =
@@ -472,8 +472,8 @@ module _ (bodies : ℕ → Code ℕ) (core : List CoreOp) (entry : ℕ → ℕ) 
         omega (arith, words, most, fits', e)
 
     has_rooms : (main : ℕ) → place_of main ≡ Main → frame_of main ≡ None → HasRooms core frames (entry main)
-    has_rooms main is none =
-        let begins' = opened_main main is none (typed.shaped main).1 in
+    has_rooms main is frameless =
+        let begins' = opened_main main is frameless (typed.shaped main).1 in
         let fits' = opens_main main is (typed.shaped main).1 in
         let a : ahead frames (is_main_place (at (entry main)).state.place.function) ≡ firsts = ap (λ (p : Place). ahead frames (is_main_place p.function)) begins' in
         record {
@@ -489,8 +489,8 @@ module _ (bodies : ℕ → Code ℕ) (core : List CoreOp) (entry : ℕ → ℕ) 
         }
 
     has_suits : (main : ℕ) → place_of main ≡ Main → frame_of main ≡ None → b.Suits core frames (entry main)
-    has_suits main is none =
-        let begins' = opened_main main is none (typed.shaped main).1 in
+    has_suits main is frameless =
+        let begins' = opened_main main is frameless (typed.shaped main).1 in
         record {
           begins = ap (λ (p : Place). is_main_place p.function) begins';
           none = ap (λ (p : Place). has_frame p.nests 0) begins';
@@ -500,10 +500,10 @@ module _ (bodies : ℕ → Code ℕ) (core : List CoreOp) (entry : ℕ → ℕ) 
         }
 
 pub live_words_suit : LiveWordsSuit
-live_words_suit bodies core entry place_of frame_of firsts may_call typed tall fit nested run keeps live least main is none = record {
+live_words_suit bodies core entry place_of frame_of firsts may_call typed tall fit nested run keeps live least main is frameless = record {
   frames = frames bodies core entry place_of frame_of firsts may_call typed tall fit nested run keeps live least;
   of_file = refl;
   keeps_are = refl;
-  suits = has_suits bodies core entry place_of frame_of firsts may_call typed tall fit nested run keeps live least main is none;
-  rooms = has_rooms bodies core entry place_of frame_of firsts may_call typed tall fit nested run keeps live least main is none;
+  suits = has_suits bodies core entry place_of frame_of firsts may_call typed tall fit nested run keeps live least main is frameless;
+  rooms = has_rooms bodies core entry place_of frame_of firsts may_call typed tall fit nested run keeps live least main is frameless;
 }

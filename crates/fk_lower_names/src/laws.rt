@@ -24,9 +24,9 @@ pub fn numbers_have_room()
     ensures { NumbersHaveRoom }
 {}
 
-/// In a program that keeps all rules, as a text spells it, and has a layout, each name is open where
-/// it is used. If it means a variable of a group frame, this frame is the one that the code has
-/// taken there at the level of the variable's region, and the words of the variable are in it.
+/// In a program that keeps all rules, as a text spells it, and has a layout, each name is open
+/// where it is used. If it means a variable of a group frame, this frame is the one that the code
+/// has taken there at the level of the variable's region, and the words of the variable are in it.
 pub fn names_are_open()
     ensures { NamesAreOpen }
 {}

@@ -89,8 +89,8 @@ pub record Nestings : Type 0 where
   pub behind : (index : ℕ) → ℕ
   -- In how many parts the call is, with the group of `start` among them.
   pub nest : (index : ℕ) → ℕ
-  -- Whether a `fork` left the level with a number, the first of them having the number 0; and of how
-  -- many words is the frame of the group that it divided, if that group is a part of this call.
+  -- Whether a `fork` left the level with a number, the first of them having the number 0; and of
+  -- how many words is the frame of the group that it divided, if that group is a part of this call.
   pub forks : (index level : ℕ) → Option ℕ
   -- Where processors meet that begin the group of `start`.
   pub start : Gathering
@@ -122,16 +122,17 @@ pub record HasLevel (memory : Memory) (at : ℕ) (level : Level) (outer : List L
 abbrev pub frames_word : (waiting : ℕ) → ℕ
 frames_word waiting = frame_end waiting - 60
 
--- Where the frames end of a group that a `fork` divided. The first level of a call has a word of the
--- header for it. The group of any other is a part of the call. It has one frame, of so many words.
+-- Where the frames end of a group that a `fork` divided. The first level of a call has a word of
+-- the header for it. The group of any other is a part of the call. It has one frame, of so many
+-- words.
 abbrev pub HasFramesEnd : Memory → (header number words : ℕ) → Level → (outer : List Level) → Type 0
 HasFramesEnd memory header zero words level outer =
     memory header ≡ control_address level.space.frames
 HasFramesEnd memory header (suc n) words level outer =
     level.space.frames ≡ first_word level outer + 8 + words
 
--- Where a `fork` leaves a level, that also has `@` and `$`: the first beside the size, which is below
--- 2048, and the second in place of where the frames end.
+-- Where a `fork` leaves a level, that also has `@` and `$`: the first beside the size, which is
+-- below 2048, and the second in place of where the frames end.
 pub record HasForked (memory : Memory) (header at number words : ℕ) (level : Level)
     (outer : List Level) : Type 0 where
   pub size : memory at ≡ level.size + 2048 * level.number
@@ -147,8 +148,8 @@ HasLevelBy None memory header at number level outer = HasLevel memory at level o
 HasLevelBy (Some words) memory header at number level outer =
     HasForked memory header at number words level outer
 
--- `count` levels of a frame from a word on. The innermost level has the highest words and the highest
--- number.
+-- `count` levels of a frame from a word on. The innermost level has the highest words and the
+-- highest number.
 abbrev pub HasSaved : Memory → (forks : ℕ → Option ℕ) → (header at count : ℕ) → List Level → Type 0
 HasSaved memory forks header at zero levels = Unit {0}
 HasSaved memory forks header at (suc n) [] = ⊥

@@ -1,7 +1,7 @@
 -- Splits, shrinks and the ends of parts: steps after which the members of a group are in two nodes
 -- or more.
-use Rattle.std.specs.Prelude.{◌≡◌, ℕ, zero, suc, ◌+◌, ◌-◌, ◌^◌, ◌<◌, ◌≤◌, List, [], ◌∷◌, length, map}
-use Rattle.std.specs.Prelude.{filter, Bool, true, false, Option, Some, None}
+use Rattle.std.specs.Prelude.{◌≡◌, ℕ, zero, suc, ◌+◌, ◌-◌, ◌^◌, ◌<◌, ◌≤◌, List, [], ◌∷◌, length}
+use Rattle.std.specs.Prelude.{map, filter, Bool, true, false, Option, Some, None}
 use Rattle.fk_num.specs.Word.{Memory}
 use Rattle.fk_space.specs.Space.{Space, IsSpace}
 use Rattle.fk_tree.specs.Tree.{is_in}
@@ -50,8 +50,8 @@ size_behind operation ps p = 0
 
 -- ---- what is asked
 
--- In a group that is a part of the running call, with so many levels in its frame, frames have taken
--- as many words as are told.
+-- In a group that is a part of the running call, with so many levels in its frame, frames have
+-- taken as many words as are told.
 abbrev pub HasFrameWords : (levels : ℕ) → Option ℕ → Level → Type 0
 HasFrameWords zero told level = Unit {0}
 HasFrameWords (suc n) None level = ⊥
@@ -92,7 +92,8 @@ module _ (nestings : Nestings) where
     pub is_space : IsSpace space
     pub all : AllAreToDivide by space count ps
 
--- In a part a processor has the `@` and `$` of the level around it, unless a `fork` left that level.
+-- In a part a processor has the `@` and `$` of the level around it, unless a `fork` left that
+-- level.
 abbrev pub HasNumbersBy : Option ℕ → (around own : Level) → Type 0
 HasNumbersBy None around own = (around.number ≡ own.number) × (around.rank ≡ own.rank)
 HasNumbersBy (Some words) around own = Unit {0}

@@ -1,6 +1,6 @@
 -- What a known round leaves of the tree: each node turns, ends, shrinks, divides or stays, and who was in one that ends, or leaves a loop, comes to its parent.
 use Rattle.std.proofs.Common.{◌≡◌, ◌≢◌, ℕ, zero, suc, ◌+◌, ◌-◌, ◌≤◌, ◌<◌, List, [], ◌∷◌, length, Option, Some, None, Bool, true, false, sym, ap, subst, ◌∙◌, refl, arith, ◌⊎◌, inl, inr, ⊎_elim, filter, eq-eqb}
-use Rattle.std.specs.Prelude.{◌==◌, ◌&&◌, ◌||◌, not, nat_le, is_some, if◌then◌else◌}
+use Rattle.std.specs.Prelude.{◌&&◌, ◌||◌, not, nat_le, is_some, if◌then◌else◌}
 use Rattle.std.proofs.lemmas.Bool.{cases_lt, cases_eq, ne_eqb, lt-leb, leb-false, or_parts, or_from, cond-true, cond-false, false≢true}
 use Rattle.std.proofs.lemmas.List.{length-map}
 use Rattle.fk_tree.specs.declared.node.Kind.{Kind}
@@ -11,10 +11,9 @@ use Rattle.fk_tree.specs.Sound.{Has, awaits, IsSound}
 use Rattle.fk_tree.proofs.Lists.{member_kept}
 use Rattle.fk_tree.proofs.Shapes.{with_same, some-given, has_some, awaits-some, members-turned, parent-turned, kind-turned, members-node_of, parent-node_of, kind-node_of, from_below, from_within}
 use Rattle.fk_meaning_operation.specs.declared.operation.SplitKind.{SplitKind}
-use Rattle.fk_meaning_operation.specs.declared.operation.SplitKind.TheVariants.{IfAlone, IfElse, AndThen, OrElse, Loop, Fork}
 use Rattle.fk_meaning_operation.specs.declared.operation.Operation.{Operation}
 use Rattle.fk_meaning_operation.specs.declared.operation.Operation.TheVariants as o
-use Rattle.fk_meaning.specs.Processor.{Processor, values, last}
+use Rattle.fk_meaning.specs.Processor.{Processor, values}
 use Rattle.fk_meaning.specs.Group.{part, parts, stays}
 use Rattle.fk_meaning.specs.Round.{lowest, who}
 use Rattle.fk_lockstep_nodes.specs.Steps.{MayStep, tree_by, NodesStep}

@@ -9,8 +9,8 @@ use Rattle.fk_tree.specs.Sound.{IsSound}
 use Rattle.fk_meaning_operation.specs.declared.operation.SplitKind.{SplitKind}
 use Rattle.fk_meaning_operation.specs.declared.operation.Operation.{Operation}
 use Rattle.fk_meaning_operation.specs.declared.operation.Operation.TheVariants.{Farm, Seq, End}
-use Rattle.fk_meaning_operation.specs.declared.operation.Operation.TheVariants.{Meet, Resume}
-use Rattle.fk_meaning_operation.specs.declared.operation.Operation.TheVariants.{Split, Shrink}
+use Rattle.fk_meaning_operation.specs.declared.operation.Operation.TheVariants.{Meet, Resume, Split}
+use Rattle.fk_meaning_operation.specs.declared.operation.Operation.TheVariants.{Shrink}
 use Rattle.fk_meaning.specs.Processor.{Setting, values}
 use Rattle.fk_meaning.specs.Group.{parts}
 use Rattle.fk_meaning.specs.Round.{lowest, who}
@@ -32,8 +32,8 @@ use Rattle.fk_sim_match.specs.Nodes.{first_of, HaveSpaces, plan_of}
 use Rattle.fk_sim_match.specs.Behind.{blocks_of}
 use Rattle.fk_sim_match.specs.Rounds.{AllDue}
 use Rattle.fk_sim_rounds.specs.Next.{JumpsLead, all_landed}
-use Rattle.fk_sim_rounds.specs.After.{actings, runners_of, tree_after, owners_after}
-use Rattle.fk_sim_rounds.specs.After.{ArePlaces, AllLanded, AllGoOn, GroupsGoOn, AllSoon}
+use Rattle.fk_sim_rounds.specs.After.{actings, runners_of, tree_after, owners_after, ArePlaces}
+use Rattle.fk_sim_rounds.specs.After.{AllLanded, AllGoOn, GroupsGoOn, AllSoon}
 
 -- What holds before a cycle: the machine runs the image, the tree is sound, its nodes own words
 -- apart, and each processor is at an operation and about to do what its stage tells.
@@ -78,8 +78,8 @@ StepIsKnown tree g Shrink =
     (trees.kind tree g ≡ Some Lockstep) × (trees.parent tree g ≢ 0)
 StepIsKnown tree g operation = ⊥
 
--- A known round: at each node nobody changes the tree, or all who stand there do one known step. The
--- members of a group that divides make as many parts.
+-- A known round: at each node nobody changes the tree, or all who stand there do one known step.
+-- The members of a group that divides make as many parts.
 pub record IsKnownRound (tree : Tree) (ds : List Doing) : Type 0 where
   pub does : ℕ → Option Operation
   pub steps : StepsBy tree does 0 (actings ds)

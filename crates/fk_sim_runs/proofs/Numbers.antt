@@ -12,7 +12,7 @@ use Rattle.fk_meaning.specs.Round.{Runner}
 use Rattle.fk_core.specs.declared.op.CoreOp.{CoreOp}
 use Rattle.fk_core.specs.Next.{Position, landing}
 use Rattle.fk_lockstep_frames.specs.Nests.{Nest, OfFunction, OfPart, nesting, levels_of, words_in_part, left_by_fork, forks_of, IsInPart}
-use Rattle.fk_lockstep_frames.specs.Taken.{numbers_of, TakesInPart, KeepsNumbers}
+use Rattle.fk_lockstep_frames.specs.Taken.{TakesInPart, KeepsNumbers}
 use Rattle.fk_lockstep_frames.specs.Lists.{HasToldFrames}
 use Rattle.fk_sim_block.specs.Next.{OpAt}
 use Rattle.fk_sim_block.specs.Node.{Nestings}

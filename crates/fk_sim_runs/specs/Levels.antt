@@ -2,8 +2,7 @@
 use Rattle.std.specs.Prelude.{◌≡◌, ℕ, suc, ◌+◌, ◌-◌, ◌^◌, ◌<◌, ◌≤◌, Bool, true, false, List, []}
 use Rattle.std.specs.Prelude.{◌∷◌, length, Some, slice_get}
 use Rattle.fk_meaning_operation.specs.declared.operation.Operation.{Operation}
-use Rattle.fk_meaning_operation.specs.declared.operation.Operation.TheVariants.{Split, Shrink}
-use Rattle.fk_meaning_operation.specs.declared.operation.Operation.TheVariants.{End}
+use Rattle.fk_meaning_operation.specs.declared.operation.Operation.TheVariants.{Split, Shrink, End}
 use Rattle.fk_meaning_operation.specs.declared.operation.SplitKind.TheVariants.{Fork}
 use Rattle.fk_meaning.specs.Processor.{Level, setting_of}
 use Rattle.fk_meaning.specs.Round.{Runner}
@@ -75,9 +74,9 @@ pub record SavesLevels (core : List CoreOp) (nestings : Nestings)
       → OpAt core (landing core r.left.at) op operation → 2 ≤ length r.has.outer
       → leaves_part operation ≡ true → 0 < nestings.levels (landing core r.left.at)
 
--- `@` is small. Where a processor is about to `fork` in a part of its call, it is told how many words
--- the frames of its group have taken. Where it is about to leave a part of its call, it has the `@`
--- and `$` of the group around, unless a `fork` left that level.
+-- `@` is small. Where a processor is about to `fork` in a part of its call, it is told how many
+-- words the frames of its group have taken. Where it is about to leave a part of its call, it has
+-- the `@` and `$` of the group around, unless a `fork` left that level.
 pub record SavesNumbers (core : List CoreOp) (nestings : Nestings)
     (r : Runner Position) : Type 0 where
   pub small : r.has.level.number < 2 ^ 16

@@ -28,8 +28,8 @@ HasSpaces p = All IsSpace (spaces_of p)
 
 -- What is known of a reached state: processors are where their operations, the tree and their
 -- levels tell, their levels have spaces, and their frames save these levels and their numbers. Each
--- processor is in the list or at its end, has as many values as its operation expects, may do it, finds the frame
--- that it asks for, and has words alone.
+-- processor is in the list or at its end, has as many values as its operation expects, may do it,
+-- finds the frame that it asks for, and has words alone.
 pub record IsReached (core : List CoreOp) (nestings : Nestings) (setting : Setting)
     (s : State Position) : Type 0 where
   pub stands : StandsInTree (next core) (λ w. landing core w.at) setting s

@@ -1,5 +1,5 @@
 -- From the ending of a call to its answer.
-use Rattle.std.proofs.Common.{◌≡◌, ◌≢◌, ℕ, List, Option, Some, None, Result, Err, IsSome, refl, sym, ap, subst, ◌∙◌, ◌⊎◌, inl, inr}
+use Rattle.std.proofs.Common.{◌≡◌, ◌≢◌, ℕ, List, [], Option, Some, None, Result, Err, IsSome, refl, sym, ap, subst, ◌∙◌, ◌⊎◌, inl, inr}
 use Rattle.std.specs.Prelude.{IsOk}
 use Rattle.std.specs.Option.{option_map}
 use Rattle.fk_ports.specs.Files.{Files}
@@ -8,7 +8,7 @@ use Rattle.fk_top.specs.declared.ending.PutFile.{PutFile}
 use Rattle.fk_top.specs.declared.report.Report.TheVariants as reports
 use Rattle.fk_top.specs.declared.status.Status.{Status}
 use Rattle.fk_top.specs.declared.status.Status.TheVariants.{ReadFault, WriteFault}
-use Rattle.fk_top_words.specs.Command.{Command, Run, Build, Exec, ListCode, Elf, Unelf, Audit, Trace, Reads}
+use Rattle.fk_top_words.specs.Command.{Command, Run, Build, Exec, ListCode, Elf, Unelf, Audit, Trace, Selftest, Reads}
 use Rattle.fk_top.specs.Words.{IsPut}
 use Rattle.fk_top.specs.Report.{line_of}
 use Rattle.fk_top.specs.Ending.{put_of}
@@ -54,6 +54,9 @@ nothing_by words (Audit f p n) bytes text outcome reads (inl r) not = ap (λ (o 
 nothing_by words (Audit f p n) bytes text outcome reads (inr r) not = nothing_audited r.image text p n outcome r.ends
 nothing_by words (Trace f p n) bytes text outcome reads (inl r) not = ap (λ (o : Outcome). o.put) r.is
 nothing_by words (Trace f p n) bytes text outcome reads (inr r) not = nothing_run r.image text p n Traces outcome r.ends
+nothing_by words (Selftest k) bytes text outcome reads (inl r) not = ap (λ (o : Outcome). o.put) r.is
+nothing_by words (Selftest k) bytes text outcome reads (inr (inl r)) not = ap (λ (o : Outcome). o.put) r.is
+nothing_by words (Selftest k) bytes text outcome reads (inr (inr r)) not = nothing_run r.image [] 64 4294967295 (Prints r.shown) outcome r.ends
 
 -- what fails to be put is there
 pub some_file : {A E : Type 0} (put : Option PutFile) (r : Result A E) (e : E) → (put ≡ None → IsOk r) → r ≡ Err e → IsSome (option_map put_of put)

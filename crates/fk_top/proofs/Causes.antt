@@ -1,11 +1,11 @@
 -- Which answers come where no fault rose.
-use Rattle.std.proofs.Common.{◌≡◌, ℕ, ◌≤◌, Bool, true, false, List, [], ◌∷◌, Option, Some, None, Ok, Err, IsSome, take, length, refl, sym, ap, subst, ◌∙◌, arith, ◌⊎◌, inl, inr}
+use Rattle.std.proofs.Common.{◌≡◌, ℕ, ◌≤◌, Bool, true, false, List, [], ◌∷◌, Option, Some, None, Ok, Err, IsSome, codes, take, length, refl, sym, ap, subst, ◌∙◌, arith, ◌⊎◌, inl, inr}
 use Rattle.std.specs.Prelude.{IfSome, IsSomeAnd, nat_lt, vec_len}
 use Rattle.std.proofs.lemmas.Bool.{ltb-true, ltb-false, lt-ltb}
 use Rattle.std.proofs.lemmas.List.{take_all, length-take}
 use Rattle.fk_syntax.specs.declared.facts.Facts.{Facts}
 use Rattle.fk_syntax.specs.Program.{ProgramTree}
-use Rattle.fk_ports.specs.Files.{Files, AppendsFile, FetchFaults, LacksFile, file}
+use Rattle.fk_ports.specs.Files.{Files, AppendsFile, LacksFile}
 use Rattle.fk_ports.specs.Known.{GivesAtMost, MovesFirst}
 use Rattle.fk_image.specs.declared.Image.{Image}
 use Rattle.fk_image.specs.Spelling.{IsImageOf}
@@ -14,45 +14,56 @@ use Rattle.fk_elf.specs.Files.{IsElfOf}
 use Rattle.fk_top_input.specs.declared.fault.InputFault.{InputFault}
 use Rattle.fk_top_input.specs.Input.{input_of}
 use Rattle.fk_top_words.specs.Arguments.{Text}
-use Rattle.fk_top_words.specs.Command.{Command, Run, Build, Exec, ListCode, Elf, Unelf, Audit, Trace}
+use Rattle.fk_top_words.specs.Command.{Command, Run, Build, Exec, ListCode, Elf, Unelf, Audit, Trace, Selftest}
 use Rattle.fk_top_words.proofs.OneCommand.{one_command}
 use Rattle.fk_layout_globals.specs.Rows.{Row}
 use Rattle.fk_compile_text.specs.Text.{IsChecked, HasGlobal}
 use Rattle.fk_compile.specs.Faithful.{IsFaithful, words_by}
 use Rattle.fk_top.specs.declared.status.Status.{Status}
 use Rattle.fk_top.specs.declared.status.Status.TheVariants.{Done, Refused, Usage, ReadFault, WriteFault, Memory, SourceFault, CycleBound, Trap, ImageRefused, InputRefused, ElfRefused}
-use Rattle.fk_top.specs.Words.{Runs, Puts, IsPut, file_of, most_bytes, most_input}
+use Rattle.fk_top.specs.Words.{TakesInput, Puts, IsPut, Origin, FirstOf, Generated, origin_of, most_input}
 use Rattle.fk_top.specs.Outcome.{Outcome, Writing, Prints, Traces, EndsOn, EndsAudit, ComesTo, RefusesSource, RefusesImage, RefusesElf, LacksGlobal, IsShown, most_numbers}
 use Rattle.fk_top.specs.Refused.{IsRefusedBy, IsNoElfAs, IsNoImageAs}
-use Rattle.fk_top.specs.Call.{Call, Request, Ends, IsUnread, IsFileUnread, IsInputUnread, IsCut, IsOutOfMemory, HasEnded, HasCause, IsInOrder, IsReadable, IsAccepted, IsInputBeside, IsOfStand, IsOfAccepted, IsOfUnreadable, IsOfUnaccepted, IsText, IsImage, IsElf, AreCut}
+use Rattle.fk_top.specs.Call.{Call, Request, Change, Rose, Ends, IsUnread, IsFileUnread, OriginFaults, AreRead, AreThere, IsHeld, IsInputUnread, IsCut, IsOutOfMemory, HasEnded, HasCause, IsInOrder, IsReadable, IsAccepted, IsInputBeside, IsOfStand, IsOfAccepted, IsOfUnreadable, IsOfUnaccepted, IsText, IsImage, IsElf, AreCut}
+use Rattle.fk_top.proofs.Inputs.{none_refused}
 use Rattle.fk_top.proofs.Lost.{no_more, moved, few_input}
 use Rattle.fk_top.proofs.Readable.{whole, same_words, variable_there, text_accepted, image_accepted, image_short, elf_accepted, elf_short}
 
 -- ---- the read
 
--- what is read of a file that is held
-read-held : (known : Option Files) (files : Files) (name bytes read : List ℕ) (most : ℕ) → known ≡ Some files → file files name ≡ Some bytes → AppendsFile known name most [] read → read ≡ take most bytes
-read-held known files name bytes read most told held appended =
-    let a = subst (λ (k : Option Files). AppendsFile k name most [] read) told appended in
-    subst (λ (o : Option (List ℕ)). IsSomeAnd o (λ b. read ≡ take most b)) held a
+-- what is read of all the bytes of an origin
+abbrev pub cut_to : Origin → List ℕ → List ℕ
+cut_to (FirstOf file most) bytes = take most bytes
+cut_to (Generated statements) bytes = bytes
 
-not_lacked : (known : Option Files) (files : Files) (name bytes : List ℕ) → known ≡ Some files → file files name ≡ Some bytes → LacksFile known name → ⊥
-not_lacked known files name bytes told held lacks =
-    let a = subst (λ (k : Option Files). LacksFile k name) told lacks in
-    let b : Some bytes ≡ None = sym held ∙ a in
+read-held : (known : Option Files) (name bytes read : List ℕ) (most : ℕ) → IsHeld known name bytes → AppendsFile known name most [] read → read ≡ take most bytes
+read-held known name bytes read most held appended =
+    let a = subst (λ (k : Option Files). AppendsFile k name most [] read) held.told appended in
+    subst (λ (o : Option (List ℕ)). IsSomeAnd o (λ b. read ≡ take most b)) held.held a
+
+read-there : (known : Option Files) (origin : Origin) (bytes read : List ℕ) → AreThere known origin bytes → AreRead known origin read → read ≡ cut_to origin bytes
+read-there known (FirstOf file most) bytes read there is = read-held known file bytes read most there is.0
+read-there known (Generated statements) bytes read there is = is ∙ sym there
+
+not_lacked : (known : Option Files) (name bytes : List ℕ) → IsHeld known name bytes → LacksFile known name → ⊥
+not_lacked known name bytes held lacks =
+    let a = subst (λ (k : Option Files). LacksFile k name) held.told lacks in
+    let b : Some bytes ≡ None = sym held.held ∙ a in
     absurd (cc)
+
+no_fault : (known : Option Files) (origin : Origin) (bytes : List ℕ) (faults : Change ℕ) → AreThere known origin bytes → ¬ Rose faults → OriginFaults known origin faults → ⊥
+no_fault known (FirstOf file most) bytes faults there steady (inl rose) = steady rose
+no_fault known (FirstOf file most) bytes faults there steady (inr lacks) = not_lacked known file bytes there lacks.0
+no_fault known (Generated statements) bytes faults there steady none = none
 
 not_unread : (call : Call) (command : Command) (bytes text : List ℕ) → IsInOrder call command bytes text → IsUnread call.request → ⊥
 not_unread call command bytes text order unread = go (one_command _ _ _ unread.reads order.reads) unread.cause
   where
-    faults : FetchFaults call.request.files (file_of command) call.request.faults.before call.request.faults.after → ⊥
-    faults (inl rose) = order.fetch_steady rose
-    faults (inr lacks) = not_lacked call.request.files order.files (file_of command) bytes order.told order.held lacks.0
-
     go : unread.command ≡ command → IsFileUnread call.request unread.command ⊎ IsInputUnread call.request unread.command → ⊥
     go same (inl file) =
-        faults (subst (λ (c : Command). FetchFaults call.request.files (file_of c) call.request.faults.before call.request.faults.after) same file.fault)
-    go same (inr input) = order.input_steady (subst Runs same input.runs) input.rose
+        no_fault call.request.files (origin_of command) bytes call.request.faults order.there order.fetch_steady
+        (subst (λ (c : Command). OriginFaults call.request.files (origin_of c) call.request.faults) same file.fault)
+    go same (inr input) = order.input_steady (subst TakesInput same input.takes) input.rose
 
 -- the text that a command takes of what is left of the input
 abbrev pub taken : Command → List ℕ → List ℕ
@@ -64,6 +75,7 @@ taken (Elf i f) text = []
 taken (Unelf f i) text = []
 taken (Audit f p n) text = take 1048577 text
 taken (Trace f p n) text = take 1048577 text
+taken (Selftest k) text = []
 
 no_bytes : (bytes : List ℕ) → length bytes ≤ 0 → bytes ≡ []
 no_bytes [] le = refl
@@ -73,7 +85,7 @@ first_of_told : (left now : Option (List ℕ)) (text got : List ℕ) (most : ℕ
 first_of_told left now text got most told moves =
     moves.appended ∙ subst (λ (k : Option (List ℕ)). IfSome k (λ l. moves.bytes ≡ take most l)) told moves.first
 
-taken_is : (request : Request) (command : Command) (text got : List ℕ) → (Runs command → request.input.left.before ≡ Some text) → MovesFirst (most_input command) request.input.left.before request.input.left.after [] got → got ≡ taken command text
+taken_is : (request : Request) (command : Command) (text got : List ℕ) → (TakesInput command → request.input.left.before ≡ Some text) → MovesFirst (most_input command) request.input.left.before request.input.left.after [] got → got ≡ taken command text
 taken_is request (Run f p n s) text got told moves = first_of_told _ _ text got 1048577 (told tt) moves
 taken_is request (Build f i) text got told moves = moves.appended ∙ no_bytes moves.bytes moves.few
 taken_is request (Exec f p n) text got told moves = first_of_told _ _ text got 1048577 (told tt) moves
@@ -82,21 +94,22 @@ taken_is request (Elf i f) text got told moves = moves.appended ∙ no_bytes mov
 taken_is request (Unelf f i) text got told moves = moves.appended ∙ no_bytes moves.bytes moves.few
 taken_is request (Audit f p n) text got told moves = first_of_told _ _ text got 1048577 (told tt) moves
 taken_is request (Trace f p n) text got told moves = first_of_told _ _ text got 1048577 (told tt) moves
+taken_is request (Selftest k) text got told moves = moves.appended ∙ no_bytes moves.bytes moves.few
 
--- what a command comes to over the first bytes of its file and of the input
+-- what a command comes to over what it reads of these bytes and of the input
 abbrev pub ComesToFirst : Command → List ℕ → List ℕ → Outcome → Type 0
-ComesToFirst command bytes text outcome = ComesTo command (take (most_bytes command) bytes) (taken command text) outcome
+ComesToFirst command bytes text outcome = ComesTo command (cut_to (origin_of command) bytes) (taken command text) outcome
 
 come : (call : Call) (command : Command) (bytes text : List ℕ) (outcome : Outcome) → IsInOrder call command bytes text → Ends call.request outcome → ComesToFirst command bytes text outcome
 come call command bytes text outcome order (inl none) = absurd (none.0 command order.reads)
 come call command bytes text outcome order (inr (inl unread)) = absurd (not_unread call command bytes text order unread.0)
 come call command bytes text outcome order (inr (inr read)) =
     let same = one_command _ _ _ read.reads order.reads in
-    let first = subst (λ (c : Command). AppendsFile call.request.files (file_of c) (most_bytes c) [] read.bytes) same read.first_bytes in
+    let first = subst (λ (c : Command). AreRead call.request.files (origin_of c) read.bytes) same read.are_read in
     let moves = subst (λ (c : Command). MovesFirst (most_input c) call.request.input.left.before call.request.input.left.after [] read.text) same read.first_input in
-    let is = read-held call.request.files order.files (file_of command) bytes read.bytes (most_bytes command) order.told order.held first in
+    let is = read-there call.request.files (origin_of command) bytes read.bytes order.there first in
     let input = taken_is call.request command text read.text order.left moves in
-    subst (λ (t : List ℕ). ComesTo command (take (most_bytes command) bytes) t outcome) input
+    subst (λ (t : List ℕ). ComesTo command (cut_to (origin_of command) bytes) t outcome) input
     (subst (λ (b : List ℕ). ComesTo command b read.text outcome) is (subst (λ (c : Command). ComesTo c read.bytes read.text outcome) same read.comes_to))
 
 -- ---- the writes
@@ -128,6 +141,9 @@ put_by (Audit f p n) bytes text outcome (inl r) some = nothing_put outcome _ r.i
 put_by (Audit f p n) bytes text outcome (inr r) some = no_put_audit r.image text p n outcome r.ends some
 put_by (Trace f p n) bytes text outcome (inl r) some = nothing_put outcome _ r.is refl some
 put_by (Trace f p n) bytes text outcome (inr r) some = no_put_run r.image text p n Traces outcome r.ends some
+put_by (Selftest k) bytes text outcome (inl r) some = nothing_put outcome _ r.is refl some
+put_by (Selftest k) bytes text outcome (inr (inl r)) some = nothing_put outcome _ r.is refl some
+put_by (Selftest k) bytes text outcome (inr (inr r)) some = no_put_run r.image [] 64 4294967295 (Prints r.shown) outcome r.ends some
 
 -- the words of a call that puts are those of one
 pub puts_by : (request : Request) (outcome : Outcome) → Ends request outcome → IsSome outcome.put → IsPut request.words
@@ -198,12 +214,11 @@ read_text source text = let short = text.short in take_all 1048577 source (omega
 read_short : (source : List ℕ) → length (take 1048577 source) ≤ 1048576 → take 1048577 source ≡ source
 read_short source short = whole 1048577 source (omega arith)
 
+text_built : (source : List ℕ) (image : Image) → IsFaithful source image → IsText source
+text_built source image b = record { short = b.short; laid = record { tree = b.program; facts = b.facts; checked = b.checked; fits = b.fits } }
+
 read_built : (source : List ℕ) (image : Image) → IsFaithful (take 1048577 source) image → IsText source
-read_built source image b =
-    subst IsText (read_short source b.short) (record {
-      short = b.short;
-      laid = record { tree = b.program; facts = b.facts; checked = b.checked; fits = b.fits };
-    })
+read_built source image b = subst IsText (read_short source b.short) (text_built (take 1048577 source) image b)
 
 read_image : (bytes : List ℕ) (image : Image) → IsImageOf bytes image → take 5434905 bytes ≡ bytes
 read_image bytes image is = let short = image_short bytes image is in take_all 5434905 bytes (omega arith)
@@ -299,6 +314,11 @@ accepted_audit image text p n globals outcome status count input same (inl r) =
 accepted_audit image text p n globals outcome status count input same (inr r) =
     (r.input, sym (input_of_taken (most_numbers (vec_len image.globals)) text) ∙ r.numbers, status-of outcome _ status r.is same)
 
+-- a run without numbers
+accepted_alone : (image : Image) (p n : ℕ) (writing : Writing) (outcome : Outcome) (status : Status) → outcome.status ≡ status → EndsOn image [] p n writing outcome → IsOfStand image [] p n status
+accepted_alone image p n writing outcome status same (inl r) = absurd (none_refused image r.fault r.refused)
+accepted_alone image p n writing outcome status same (inr r) = (r.input, r.numbers, status-of outcome _ status r.is same)
+
 accepted_ends : (command : Command) (bytes text : List ℕ) (outcome : Outcome) (status : Status) → IsReadable command bytes → IsAccepted command bytes text → outcome.status ≡ status → ComesToFirst command bytes text outcome → IsOfAccepted command bytes text status
 accepted_ends (Run f p n s) source text outcome status is input same (inl r) = absurd (not_refused source outcome is.0 r)
 accepted_ends (Run f p n s) source text outcome status is input same (inr (inl r)) = absurd (not_lacking source s outcome is.1 is.0 is.2 r)
@@ -329,8 +349,12 @@ accepted_ends (Trace f p n) source text outcome status is input same (inr r) =
     let built = subst (λ (b : List ℕ). IsFaithful b r.image) (read_text source is) r.compiled in
     let count = globals_of source r.image input.0 input.1 built input.2 in
     inr (r.image, built, accepted_run r.image text p n (length (words_by input.0 input.1)) Traces outcome status count input.3 same r.ends)
+accepted_ends (Selftest k) source text outcome status is input same (inl r) = absurd (text_accepted source r.line is.0 r.refused)
+accepted_ends (Selftest k) source text outcome status is input same (inr (inl r)) = absurd (asked_there source (Some (codes "c")) is.1 r.name is.2 r.asked r.none)
+accepted_ends (Selftest k) source text outcome status is input same (inr (inr r)) =
+    inr (r.image, r.compiled, accepted_alone r.image 64 4294967295 (Prints r.shown) outcome status same r.ends)
 
--- where the file isn't
+-- where what is read isn't
 unreadable_ends : (command : Command) (bytes text : List ℕ) (outcome : Outcome) (status : Status) → ¬ IsReadable command bytes → outcome.status ≡ status → ComesToFirst command bytes text outcome → IsOfUnreadable command status
 unreadable_ends (Run f p n s) source text outcome status none same (inl r) = inr (status-of outcome _ status r.is same)
 unreadable_ends (Run f p n s) source text outcome status none same (inr (inl r)) = inr (status-of outcome _ status r.is same)
@@ -350,6 +374,9 @@ unreadable_ends (Audit f p n) source text outcome status none same (inl r) = inr
 unreadable_ends (Audit f p n) source text outcome status none same (inr r) = absurd (none (read_built source r.image r.compiled))
 unreadable_ends (Trace f p n) source text outcome status none same (inl r) = inr (status-of outcome _ status r.is same)
 unreadable_ends (Trace f p n) source text outcome status none same (inr r) = absurd (none (read_built source r.image r.compiled))
+unreadable_ends (Selftest k) source text outcome status none same (inl r) = inr (status-of outcome _ status r.is same)
+unreadable_ends (Selftest k) source text outcome status none same (inr (inl r)) = inr (status-of outcome _ status r.is same)
+unreadable_ends (Selftest k) source text outcome status none same (inr (inr r)) = absurd (none (text_built source r.image r.compiled, r.shown, r.is_shown))
 
 -- and where the input isn't
 unaccepted_ends : (command : Command) (bytes text : List ℕ) (outcome : Outcome) (status : Status) → IsReadable command bytes → ¬ IsAccepted command bytes text → outcome.status ≡ status → ComesToFirst command bytes text outcome → IsOfUnaccepted status
@@ -399,6 +426,7 @@ unaccepted_ends (Trace f p n) source text outcome status is none same (inr r) = 
     by (inr runs) =
         let count = globals_of source r.image faithful.program faithful.facts faithful faithful.checked in
         absurd (none (faithful.program, faithful.facts, faithful.checked, beside (vec_len r.image.globals) _ text runs.input count runs.numbers))
+unaccepted_ends (Selftest k) source text outcome status is none same comes = absurd (none tt)
 
 -- want of memory is an answer in any case
 memory_accepted : (command : Command) (bytes text : List ℕ) (status : Status) → status ≡ Memory → IsOfAccepted command bytes text status
@@ -410,6 +438,7 @@ memory_accepted (Elf i f) bytes text status is = inl is
 memory_accepted (Unelf f i) bytes text status is = inl is
 memory_accepted (Audit f p n) bytes text status is = inl is
 memory_accepted (Trace f p n) bytes text status is = inl is
+memory_accepted (Selftest k) bytes text status is = inl is
 
 memory_unreadable : (command : Command) (status : Status) → status ≡ Memory → IsOfUnreadable command status
 memory_unreadable (Run f p n s) status is = inl is
@@ -420,6 +449,7 @@ memory_unreadable (Elf i f) status is = inl is
 memory_unreadable (Unelf f i) status is = inl is
 memory_unreadable (Audit f p n) status is = inl is
 memory_unreadable (Trace f p n) status is = inl is
+memory_unreadable (Selftest k) status is = inl is
 
 -- ---- the answers to what is in order, and to what isn't
 

@@ -1,5 +1,5 @@
 -- The numbers of an input text are words, and as few as they may be.
-use Rattle.std.proofs.Common.{◌≡◌, ℕ, ℤ, pos, negsuc, ◌+◌, ◌^◌, ◌<◌, ◌≤◌, Bool, true, false, List, [], ◌∷◌, Option, Some, None, Ok, All, length, map, refl, sym, subst, arith}
+use Rattle.std.proofs.Common.{◌≡◌, ℕ, ℤ, pos, negsuc, ◌+◌, ◌^◌, ◌<◌, ◌≤◌, Bool, true, false, List, [], ◌∷◌, Option, Some, None, Ok, Err, All, length, map, refl, sym, subst, arith}
 use Rattle.std.specs.Prelude.{nat_lt, vec_len}
 use Rattle.std.proofs.lemmas.Bool.{ltb-false}
 use Rattle.std.proofs.lemmas.List.{length-map}
@@ -65,3 +65,7 @@ is_input image text numbers limits e =
       room = omega (arith, limits.globals);
       words = subst (All (λ n. n < 2 ^ 32)) (sym (gives _ text numbers e).are) (are_words (words text));
     }
+
+-- the empty text is not refused
+pub none_refused : (image : Image) (fault : InputFault) → numbers_for image [] ≡ Err fault → ⊥
+none_refused image fault e = let bad : Ok [] ≡ Err fault = e in cc

@@ -10,12 +10,12 @@ use Rattle.fk_compile.specs.Faithful.{IsFaithful}
 use Rattle.fk_compile.specs.Laws.{IsUntrapped}
 use Rattle.fk_compile.proofs.Untrapped.{never_traps}
 use Rattle.fk_top_words.specs.Arguments.{Text}
-use Rattle.fk_top_words.specs.Command.{Command, Run, Build, Exec, ListCode, Elf, Unelf, Audit, Trace, Reads, ReadsRun}
+use Rattle.fk_top_words.specs.Command.{Command, Run, Build, Exec, ListCode, Elf, Unelf, Audit, Trace, Selftest, Reads, ReadsRun}
 use Rattle.fk_top.specs.declared.status.Status.{Status}
 use Rattle.fk_top.specs.declared.status.Status.TheVariants.{Done, Refused, SourceFault, CycleBound, Trap, ImageRefused, InputRefused, ElfRefused}
-use Rattle.fk_top.specs.Words.{Runs, IsRun, IsExec}
-use Rattle.fk_top.specs.Outcome.{Outcome, Writing, Prints, Traces, EndsOn, EndsAudit, ComesTo, status_of}
-use Rattle.fk_top.proofs.Inputs.{is_input}
+use Rattle.fk_top.specs.Words.{Runs, IsRun, TakesInput, HasInput, IsExec}
+use Rattle.fk_top.specs.Outcome.{Outcome, Writing, Prints, Traces, EndsOn, EndsAudit, ComesTo, RefusesInput, status_of}
+use Rattle.fk_top.proofs.Inputs.{is_input, none_refused}
 
 -- the command reads a source, or bytes of an image or of an ELF file, or runs an image of bytes
 abbrev pub ReadsSource : Command → Type 0
@@ -23,6 +23,7 @@ ReadsSource (Run file harts cycles show) = Unit {0}
 ReadsSource (Build file image) = Unit {0}
 ReadsSource (Audit file harts cycles) = Unit {0}
 ReadsSource (Trace file harts cycles) = Unit {0}
+ReadsSource (Selftest statements) = Unit {0}
 ReadsSource command = ⊥
 
 abbrev pub ReadsImage : Command → Type 0
@@ -46,7 +47,7 @@ IsOf Refused command = ReadsSource command
 IsOf ImageRefused command = ReadsImage command
 IsOf ElfRefused command = ReadsElf command
 IsOf CycleBound command = Runs command
-IsOf InputRefused command = Runs command
+IsOf InputRefused command = TakesInput command
 IsOf SourceFault command = Runs command
 IsOf Trap command = RunsImage command
 IsOf status command = ⊥
@@ -103,9 +104,9 @@ of_stand image harts cycles (Trapped hart pc kind) = tt
 is_of : (command : Command) (outcome other : Outcome) → outcome ≡ other → IsOf other.status command → IsOf outcome.status command
 is_of command outcome other same is = subst (λ (o : Outcome). IsOf o.status command) (sym same) is
 
-of_source : (source text : List ℕ) (image : Image) (command : Command) (p n : ℕ) (writing : Writing) (outcome : Outcome) → Runs command → IsFaithful source image → AreInBounds p n → EndsOn image text p n writing outcome → IsOf outcome.status command
-of_source source text image command p n writing outcome runs faithful bounds (inl r) = is_of command outcome _ r.is runs
-of_source source text image command p n writing outcome runs faithful bounds (inr r) =
+of_source : (source text : List ℕ) (image : Image) (command : Command) (p n : ℕ) (writing : Writing) (outcome : Outcome) → Runs command → (RefusesInput image text outcome → TakesInput command) → IsFaithful source image → AreInBounds p n → EndsOn image text p n writing outcome → IsOf outcome.status command
+of_source source text image command p n writing outcome runs takes faithful bounds (inl r) = is_of command outcome _ r.is (takes r)
+of_source source text image command p n writing outcome runs takes faithful bounds (inr r) =
     let input = is_input image text r.input faithful.faithful.limits r.numbers in
     let stand = never_traps source image r.input p n faithful input bounds.some bounds.few bounds.bound in
     is_of command outcome _ r.is (of_untrapped command runs (machine image r.input p n).stand stand)
@@ -125,7 +126,7 @@ pub outcome_is_of : (words : List Text) (command : Command) (bytes text : List �
 outcome_is_of words (Run f p n show) bytes text outcome reads (inl r) = is_of (Run f p n show) outcome _ r.is tt
 outcome_is_of words (Run f p n show) bytes text outcome reads (inr (inl r)) = is_of (Run f p n show) outcome _ r.is tt
 outcome_is_of words (Run f p n show) bytes text outcome reads (inr (inr r)) =
-    of_source bytes text r.image (Run f p n show) p n (Prints r.shown) outcome tt r.compiled (within_run words f p n show reads) r.ends
+    of_source bytes text r.image (Run f p n show) p n (Prints r.shown) outcome tt (λ _. tt) r.compiled (within_run words f p n show reads) r.ends
 outcome_is_of words (Build f i) bytes text outcome reads (inl r) = is_of (Build f i) outcome _ r.is tt
 outcome_is_of words (Build f i) bytes text outcome reads (inr r) = is_of (Build f i) outcome _ r.is tt
 outcome_is_of words (Exec f p n) bytes text outcome reads (inl r) = is_of (Exec f p n) outcome _ r.is tt
@@ -140,7 +141,12 @@ outcome_is_of words (Audit f p n) bytes text outcome reads (inl r) = is_of (Audi
 outcome_is_of words (Audit f p n) bytes text outcome reads (inr r) = of_audit bytes text r.image f p n outcome r.compiled (within_audit words f p n reads) r.ends
 outcome_is_of words (Trace f p n) bytes text outcome reads (inl r) = is_of (Trace f p n) outcome _ r.is tt
 outcome_is_of words (Trace f p n) bytes text outcome reads (inr r) =
-    of_source bytes text r.image (Trace f p n) p n Traces outcome tt r.compiled (within_trace words f p n reads) r.ends
+    of_source bytes text r.image (Trace f p n) p n Traces outcome tt (λ _. tt) r.compiled (within_trace words f p n reads) r.ends
+outcome_is_of words (Selftest k) bytes text outcome reads (inl r) = is_of (Selftest k) outcome _ r.is tt
+outcome_is_of words (Selftest k) bytes text outcome reads (inr (inl r)) = is_of (Selftest k) outcome _ r.is tt
+outcome_is_of words (Selftest k) bytes text outcome reads (inr (inr r)) =
+    of_source bytes [] r.image (Selftest k) 64 4294967295 (Prints r.shown) outcome tt (λ i. none_refused r.image i.fault i.refused) r.compiled
+    (record { some = omega arith; few = omega arith; bound = omega arith }) r.ends
 
 -- what alone runs an image of bytes is `exec`
 pub is_exec : (words : List Text) (command : Command) → Reads words command → RunsImage command → IsExec words
@@ -152,6 +158,10 @@ is_exec words (Elf i f) reads none = absurd none
 is_exec words (Unelf f i) reads none = absurd none
 is_exec words (Audit f p n) reads none = absurd none
 is_exec words (Trace f p n) reads none = absurd none
+is_exec words (Selftest k) reads none = absurd none
 
 pub is_run : (words : List Text) (command : Command) → Reads words command → Runs command → IsRun words
 is_run words command reads runs = (command, reads, runs)
+
+pub has_input : (words : List Text) (command : Command) → Reads words command → TakesInput command → HasInput words
+has_input words command reads takes = (command, reads, takes)

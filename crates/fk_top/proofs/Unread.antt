@@ -1,27 +1,27 @@
 -- What a call comes to where the words, or something else, could not be read.
-use Rattle.std.proofs.Common.{◌≡◌, ℕ, List, Result, Ok, Err, IfOk, refl, subst, inl, inr}
+use Rattle.std.proofs.Common.{◌≡◌, ℕ, List, [], Result, Ok, Err, IfOk, refl, subst, inl, inr}
 use Rattle.std.specs.Prelude.{IsErr, IsOkAnd}
 use Rattle.std.specs.declared.alloc.AllocError.{AllocError}
-use Rattle.fk_ports.specs.Files.{FetchFaults}
+use Rattle.fk_ports.specs.Known.{MovesFirst}
 use Rattle.fk_ports.specs.declared.faults.StoreFault.{StoreFault}
 use Rattle.fk_ports.specs.declared.faults.StoreFault.TheVariants.{Fault, Memory}
-use Rattle.fk_top_words.specs.Command.{Command}
+use Rattle.fk_top_words.specs.Command.{Command, Reads}
 use Rattle.fk_top_words.specs.declared.fault.WordsFault.{WordsFault}
 use Rattle.fk_top_words.specs.declared.fault.WordsFault.TheVariants as words
 use Rattle.fk_top.specs.declared.ending.Ending.{Ending}
 use Rattle.fk_top.specs.declared.report.Report.TheVariants as reports
 use Rattle.fk_top.specs.declared.status.Status.TheVariants.{ReadFault, Usage}
-use Rattle.fk_top.specs.Words.{file_of}
+use Rattle.fk_top.specs.Words.{Origin, origin_of, most_input}
 use Rattle.fk_top.specs.Report.{line_of}
 use Rattle.fk_top.specs.Ending.{outcome_of}
-use Rattle.fk_top.specs.Outcome.{silent}
-use Rattle.fk_top.specs.Call.{Request, Ends, IsSame, IsNoCommand, IsUnread, IsFileUnread}
+use Rattle.fk_top.specs.Outcome.{ComesTo, silent}
+use Rattle.fk_top.specs.Call.{Request, Ends, IsSame, IsNoCommand, IsUnread, IsFileUnread, OriginFaults, AreRead}
 
--- the file of this name could not be read
-pub file_unread : (request : Request) (command : Command) (name : List ℕ) → name ≡ file_of command → FetchFaults request.files name request.faults.before request.faults.after
+-- the file of this origin could not be read
+pub file_unread : (request : Request) (command : Command) (origin : Origin) → origin ≡ origin_of command → OriginFaults request.files origin request.faults
     → IsSame request.input.left → IsSame request.input.faults → IsFileUnread request command
-file_unread request command name same fault left steady = record {
-  fault = subst (λ (n : List ℕ). FetchFaults request.files n request.faults.before request.faults.after) same fault;
+file_unread request command origin same fault left steady = record {
+  fault = subst (λ o. OriginFaults request.files o request.faults) same fault;
   left = left;
   steady = steady;
 }
@@ -39,3 +39,19 @@ pub unread_ends : (r : Result Ending AllocError) (fault : StoreFault) (request :
 unread_ends (Ok e) Fault request unread is none = inr (inl (unread refl, is refl))
 unread_ends (Ok e) Memory request unread is none = absurd (let bad = none refl in cc)
 unread_ends (Err error) fault request unread is none = tt
+
+-- what was read has its ending
+pub read_ends : (r : Result Ending AllocError) (request : Request) (command : Command) (origin : Origin) (bytes slice input text : List ℕ) → origin ≡ origin_of command → slice ≡ bytes → text ≡ input
+    → Reads request.words command → AreRead request.files origin bytes → MovesFirst (most_input command) request.input.left.before request.input.left.after [] input
+    → IfOk r (λ e. ComesTo command slice text (outcome_of e)) → IfOk r (λ e. Ends request (outcome_of e))
+read_ends (Ok e) request command origin bytes slice input text is same also reads are_read moves comes =
+    inr (inr (record {
+      command = command;
+      reads = reads;
+      bytes = bytes;
+      are_read = subst (λ o. AreRead request.files o bytes) is are_read;
+      text = input;
+      first_input = moves;
+      comes_to = subst (λ t. ComesTo command bytes t (outcome_of e)) also (subst (λ b. ComesTo command b text (outcome_of e)) same comes);
+    }))
+read_ends (Err error) request command origin bytes slice input text is same also reads are_read moves comes = tt

@@ -1,17 +1,17 @@
 -- From the cause of an answer to all that holds of it.
 use Rattle.std.proofs.Common.{◌≡◌, ◌≢◌, ℕ, List, [], Option, Some, None, take, sym, ap, subst, ◌∙◌, inl, inr}
 use Rattle.std.specs.Prelude.{IsSomeAnd}
-use Rattle.fk_ports.specs.Files.{Files, AppendsFile, LacksFile}
+use Rattle.fk_ports.specs.Files.{Files}
 use Rattle.fk_top.specs.declared.status.Status.{Status}
 use Rattle.fk_top.specs.declared.status.Status.TheVariants.{Usage, ReadFault, SourceFault, Trap, InputRefused}
 use Rattle.fk_top_words.specs.Command.{Command, Reads}
 use Rattle.fk_top_words.proofs.OneCommand.{one_command}
-use Rattle.fk_top.specs.Words.{IsRun, IsPut, IsExec, file_of, most_bytes}
+use Rattle.fk_top.specs.Words.{IsRun, HasInput, IsPut, IsExec, IsFetch, Origin, FirstOf, Generated, origin_of}
 use Rattle.fk_top.specs.Outcome.{Outcome, Put}
-use Rattle.fk_top.specs.Call.{Call, Request, Stored, HasPut, IsSame, Ends, IsNoCommand, IsUnread, HasRead, HasEnded, HasCause, IsCut, AreCut, FailsToWrite, TellsFaults, IsAbsent, IsOfAbsent, IsOfNoCommand, IsAnswer}
+use Rattle.fk_top.specs.Call.{Call, Request, Stored, HasPut, IsSame, Ends, IsNoCommand, IsUnread, HasRead, HasEnded, HasCause, IsCut, AreCut, FailsToWrite, TellsFaults, IsAbsent, LacksOrigin, AreRead, IsOfAbsent, IsOfNoCommand, IsAnswer}
 use Rattle.fk_top.proofs.Answered.{nothing_of}
 use Rattle.fk_top.proofs.Causes.{ByAnswer, by_answer, puts_by, accepted, unreadable, unaccepted}
-use Rattle.fk_top.proofs.Statuses.{IsOf, outcome_is_of, is_exec, is_run}
+use Rattle.fk_top.proofs.Statuses.{IsOf, outcome_is_of, is_exec, is_run, has_input}
 
 -- the status of an outcome that a command came to
 status_of_read : (request : Request) (outcome : Outcome) (status : Status) (read : HasRead request outcome) → outcome.status ≡ status → IsOf status read.command
@@ -52,9 +52,10 @@ read_fault call ended = go ended.cause
     go (inr (inr read)) = absurd (status_of_read call.request ended.outcome ReadFault read ended.status_is)
 
 -- a file that is absent is not read
-not_read : (known : Option Files) (name bytes : List ℕ) (most : ℕ) → LacksFile known name → AppendsFile known name most [] bytes → ⊥
-not_read None name bytes most lacks read = lacks
-not_read (Some files) name bytes most lacks read = subst (λ (o : Option (List ℕ)). IsSomeAnd o (λ b. bytes ≡ take most b)) lacks read
+not_read : (known : Option Files) (origin : Origin) (bytes : List ℕ) → LacksOrigin known origin → AreRead known origin bytes → ⊥
+not_read None (FirstOf file most) bytes lacks read = lacks
+not_read (Some files) (FirstOf file most) bytes lacks read = subst (λ (o : Option (List ℕ)). IsSomeAnd o (λ b. bytes ≡ take most b)) lacks read.0
+not_read known (Generated statements) bytes lacks read = lacks
 
 absent : (call : Call) (status : Status) → HasCause call status → IsAbsent call.request → IsOfAbsent status
 absent call status cause lost = go (by_answer call status cause)
@@ -64,8 +65,8 @@ absent call status cause lost = go (by_answer call status cause)
     of ended (inr (inl unread)) = inl (sym ended.status_is ∙ ap (λ (o : Outcome). o.status) unread.1)
     of ended (inr (inr read)) =
         let same = one_command call.request.words lost.command read.command lost.reads read.reads in
-        absurd (not_read call.request.files (file_of read.command) read.bytes (most_bytes read.command)
-        (subst (λ (c : Command). LacksFile call.request.files (file_of c)) same lost.lacks) read.first_bytes)
+        absurd (not_read call.request.files (origin_of read.command) read.bytes
+        (subst (λ (c : Command). LacksOrigin call.request.files (origin_of c)) same lost.lacks) read.are_read)
 
     go : ByAnswer call status → IsOfAbsent status
     go (inl cut) = inr (inl cut.0)
@@ -116,9 +117,10 @@ files call status cause not = go (by_answer call status cause)
 
 -- ---- all of it
 
-pub answer_of : (call : Call) (status : Status) → HasCause call status → TellsFaults call status → (¬ IsRun call.request.words → IsSame call.request.input.left)
-    → (¬ IsRun call.request.words → IsSame call.request.input.faults) → (¬ IsPut call.request.words → IsSame call.store.faults) → IsAnswer call status
-answer_of call status cause told left input_faults steady = record {
+pub answer_of : (call : Call) (status : Status) → HasCause call status → TellsFaults call status → (¬ IsFetch call.request.words → IsSame call.request.faults)
+    → (¬ HasInput call.request.words → IsSame call.request.input.left) → (¬ HasInput call.request.words → IsSame call.request.input.faults) → (¬ IsPut call.request.words → IsSame call.store.faults)
+    → IsAnswer call status
+answer_of call status cause told fetch left input_faults steady = record {
   answer = cause;
   usage = λ is. usage call (subst (HasCause call) is cause);
   no_command = no_command call status cause;
@@ -128,7 +130,8 @@ answer_of call status cause told left input_faults steady = record {
   told = told;
   source_fault = λ is. by_read call SourceFault (subst (HasCause call) is cause) (λ e. cc) (λ e. cc) (IsRun call.request.words) (is_run call.request.words);
   trap = λ is. by_read call Trap (subst (HasCause call) is cause) (λ e. cc) (λ e. cc) (IsExec call.request.words) (is_exec call.request.words);
-  input = λ is. by_read call InputRefused (subst (HasCause call) is cause) (λ e. cc) (λ e. cc) (IsRun call.request.words) (is_run call.request.words);
+  fetch_faults = fetch;
+  input = λ is. by_read call InputRefused (subst (HasCause call) is cause) (λ e. cc) (λ e. cc) (HasInput call.request.words) (has_input call.request.words);
   left = left;
   input_faults = input_faults;
   complete = λ command bytes text order. accepted call status command bytes text order cause;

@@ -1,7 +1,7 @@
 -- Whole calls: why each ends as it does, and what the store and the sinks have after it.
 use Rattle.std.specs.Prelude.{◌+◌}
 use Rattle.std.specs.Prelude.{◌≡◌, ◌≢◌, ℕ, ◌≤◌, ◌⊎◌, List, [], length, vec_len, Option, Some, None}
-use Rattle.std.specs.Prelude.{IsSome, Ok}
+use Rattle.std.specs.Prelude.{IsSome, Ok, codes}
 use Rattle.std.specs.Io.KnownBytes.{append_known}
 use Rattle.fk_num.specs.Limits.{most_text_bytes}
 use Rattle.fk_ports.specs.Faults.{HasRisen}
@@ -18,15 +18,16 @@ use Rattle.fk_compile_text.specs.Text.{HasLayout, IsChecked}
 use Rattle.fk_compile.specs.Faithful.{IsFaithful, words_by}
 use Rattle.fk_top_input.specs.Input.{input_of}
 use Rattle.fk_top_words.specs.Command.{Command, Run, Build, Exec, ListCode, Elf}
-use Rattle.fk_top_words.specs.Command.{Unelf, Audit, Trace, Reads}
+use Rattle.fk_top_words.specs.Command.{Unelf, Audit, Trace, Selftest, Reads}
+use Rattle.fk_top_selftest.specs.Generated.{generated}
 use Rattle.fk_top.specs.declared.report.Report.TheVariants as reports
 use Rattle.fk_top.specs.declared.status.Status.{Status}
 use Rattle.fk_top.specs.declared.status.Status.TheVariants.{Done, Refused, Usage, ReadFault}
 use Rattle.fk_top.specs.declared.status.Status.TheVariants.{WriteFault, Memory, SourceFault, Trap}
 use Rattle.fk_top.specs.declared.status.Status.TheVariants.{ImageRefused, InputRefused}
 use Rattle.fk_top.specs.declared.status.Status.TheVariants.{ElfRefused}
-use Rattle.fk_top.specs.Words.{Runs, IsRun, Puts, IsPut, IsExec, file_of, most_bytes}
-use Rattle.fk_top.specs.Words.{most_input}
+use Rattle.fk_top.specs.Words.{IsRun, TakesInput, HasInput, Puts, IsPut, IsExec, IsFetch}
+use Rattle.fk_top.specs.Words.{Origin, FirstOf, Generated, origin_of, most_input}
 use Rattle.fk_top.specs.Report.{line_of}
 use Rattle.fk_top.specs.Outcome.{Put, Outcome, silent, status_of, IsShown, most_numbers}
 use Rattle.fk_top.specs.Outcome.{numbers_for, ComesTo}
@@ -128,15 +129,27 @@ pub record FailedIn (sink : Sunk) (bytes : List ℕ) : Type 0 where
 abbrev pub IsNoCommand : List (List ℕ) → Type 0
 IsNoCommand words = (command : Command) → ¬ Reads words command
 
+-- The file of an origin could not be read. A generated text has no file.
+abbrev pub OriginFaults : Option Files → Origin → Change ℕ → Type 0
+OriginFaults files (FirstOf file most) faults = FetchFaults files file faults.before faults.after
+OriginFaults files (Generated statements) faults = ⊥
+
+-- The bytes are those of an origin: the first ones of the file, if the store's files are known, or
+-- the generated text.
+abbrev pub AreRead : Option Files → Origin → List ℕ → Type 0
+AreRead files (FirstOf file most) bytes =
+    AppendsFile files file most [] bytes × (length bytes ≤ most)
+AreRead files (Generated statements) bytes = bytes ≡ generated statements
+
 -- The file of a command could not be read, and nothing was taken from the input.
 pub record IsFileUnread (request : Request) (command : Command) : Type 0 where
-  pub fault : FetchFaults request.files (file_of command) request.faults.before request.faults.after
+  pub fault : OriginFaults request.files (origin_of command) request.faults
   pub left : IsSame request.input.left
   pub steady : IsSame request.input.faults
 
--- The file of a command that runs was read, but its input could not be read.
+-- The file of a command was read, but its input could not be read.
 pub record IsInputUnread (request : Request) (command : Command) : Type 0 where
-  pub runs : Runs command
+  pub takes : TakesInput command
   pub fetched : IsSame request.faults
   pub rose : Rose request.input.faults
   pub lost : GivesAtMost (most_input command) request.input.left.before request.input.left.after
@@ -147,14 +160,14 @@ pub record IsUnread (request : Request) : Type 0 where
   pub reads : Reads request.words command
   pub cause : IsFileUnread request command ⊎ IsInputUnread request command
 
--- The words are a command, and its file was read: its first bytes, if the store's files are known.
--- If the command runs, then the first bytes of the input were read too, if these are known.
+-- The words are a command, and its bytes were read: the first ones of its file, if the store's
+-- files are known, or its generated text. If the command takes an input, then the first bytes of the
+-- input were read too, if these are known.
 pub record HasRead (request : Request) (outcome : Outcome) : Type 0 where
   pub command : Command
   pub reads : Reads request.words command
   pub bytes : List ℕ
-  pub first_bytes : AppendsFile request.files (file_of command) (most_bytes command) [] bytes
-  pub at_most : length bytes ≤ most_bytes command
+  pub are_read : AreRead request.files (origin_of command) bytes
   pub text : List ℕ
   pub first_input : MovesFirst
       (most_input command) request.input.left.before request.input.left.after [] text
@@ -224,11 +237,16 @@ pub record TellsFaults (call : Call) (status : Status) : Type 0 where
   pub out : status ≢ WriteFault → IsSame call.out.faults
   pub err : status ≢ WriteFault → IsSame call.err.faults
 
+-- The store's files are known and don't have the file of an origin.
+abbrev pub LacksOrigin : Option Files → Origin → Type 0
+LacksOrigin files (FirstOf file most) = LacksFile files file
+LacksOrigin files (Generated statements) = ⊥
+
 -- The words are a command, and the store's files are known and don't have the file that it reads.
 pub record IsAbsent (request : Request) : Type 0 where
   pub command : Command
   pub reads : Reads request.words command
-  pub lacks : LacksFile request.files (file_of command)
+  pub lacks : LacksOrigin request.files (origin_of command)
 
 -- The statuses where that file is absent.
 abbrev pub IsOfAbsent : Status → Type 0
@@ -238,16 +256,25 @@ IsOfAbsent status = (status ≡ ReadFault) ⊎ (status ≡ WriteFault) ⊎ (stat
 abbrev pub IsOfNoCommand : Status → Type 0
 IsOfNoCommand status = (status ≡ Usage) ⊎ (status ≡ WriteFault) ⊎ (status ≡ Memory)
 
--- The words are a command whose file the store has, with these bytes. What is left of the input is
--- this text, and no count of faults rose in the call.
+-- The store's files are known, and the file of this name has these bytes.
+pub record IsHeld (known : Option Files) (name bytes : List ℕ) : Type 0 where
+  pub files : Files
+  pub told : known ≡ Some files
+  pub held : file files name ≡ Some bytes
+
+-- The bytes are all those of an origin.
+abbrev pub AreThere : Option Files → Origin → List ℕ → Type 0
+AreThere files (FirstOf file most) bytes = IsHeld files file bytes
+AreThere files (Generated statements) bytes = bytes ≡ generated statements
+
+-- The words are a command. The store has its file, with these bytes, or they are its generated
+-- text. What is left of the input is this text, and no count of faults rose in the call.
 pub record IsInOrder (call : Call) (command : Command) (bytes text : List ℕ) : Type 0 where
   pub reads : Reads call.request.words command
-  pub files : Files
-  pub told : call.request.files ≡ Some files
-  pub held : file files (file_of command) ≡ Some bytes
-  pub left : Runs command → call.request.input.left.before ≡ Some text
+  pub there : AreThere call.request.files (origin_of command) bytes
+  pub left : TakesInput command → call.request.input.left.before ≡ Some text
   pub fetch_steady : ¬ Rose call.request.faults
-  pub input_steady : Runs command → ¬ Rose call.request.input.faults
+  pub input_steady : TakesInput command → ¬ Rose call.request.input.faults
   pub put_steady : Puts command → ¬ Rose call.store.faults
   pub out_steady : ¬ Rose call.out.faults
   pub err_steady : ¬ Rose call.err.faults
@@ -265,8 +292,8 @@ IsImage bytes = (image : Image) × IsImageOf bytes image
 abbrev pub IsElf : List ℕ → Type 0
 IsElf bytes = (image : Image) × IsElfOf bytes image
 
--- The file that a command reads is in order: a text, which has the variable that is to be shown, an
--- image, or the ELF file of one.
+-- What a command reads is in order: a text, which has the variable that is to be shown, an image,
+-- or the ELF file of one.
 abbrev pub IsReadable : Command → List ℕ → Type 0
 IsReadable (Run file harts cycles show) source = IsText source × (shown : Option Row)
     × IsShown source show shown
@@ -277,6 +304,8 @@ IsReadable (Elf image file) bytes = IsImage bytes
 IsReadable (Unelf file image) bytes = IsElf bytes
 IsReadable (Audit file harts cycles) source = IsText source
 IsReadable (Trace file harts cycles) source = IsText source
+IsReadable (Selftest statements) source = IsText source × (shown : Option Row)
+    × IsShown source (Some (codes "c")) shown
 
 -- The text has numbers, and no more than there may be beside this many globals.
 abbrev pub IsInputBeside : ℕ → List ℕ → Type 0
@@ -300,6 +329,7 @@ IsAccepted (Elf image file) bytes text = Unit {0}
 IsAccepted (Unelf file image) bytes text = Unit {0}
 IsAccepted (Audit file harts cycles) source text = IsInputOfText source text
 IsAccepted (Trace file harts cycles) source text = IsInputOfText source text
+IsAccepted (Selftest statements) source text = Unit {0}
 
 -- The status for the machine of an image on the numbers of a text.
 abbrev pub IsOfStand : Image → List ℕ → ℕ → ℕ → Status → Type 0
@@ -328,8 +358,10 @@ IsOfAccepted (Audit file harts cycles) source text status =
     (status ≡ Memory) ⊎ IsOfRun source text harts cycles status
 IsOfAccepted (Trace file harts cycles) source text status =
     (status ≡ Memory) ⊎ IsOfRun source text harts cycles status
+IsOfAccepted (Selftest statements) source text status =
+    (status ≡ Memory) ⊎ IsOfRun source [] 64 4294967295 status
 
--- The statuses where the file isn't in order.
+-- The statuses where what is read isn't in order.
 abbrev pub IsOfUnreadable : Command → Status → Type 0
 IsOfUnreadable (Run file harts cycles show) status = (status ≡ Memory) ⊎ (status ≡ Refused)
 IsOfUnreadable (Build file image) status = (status ≡ Memory) ⊎ (status ≡ Refused)
@@ -339,8 +371,9 @@ IsOfUnreadable (Elf image file) status = (status ≡ Memory) ⊎ (status ≡ Ima
 IsOfUnreadable (Unelf file image) status = (status ≡ Memory) ⊎ (status ≡ ElfRefused)
 IsOfUnreadable (Audit file harts cycles) status = (status ≡ Memory) ⊎ (status ≡ Refused)
 IsOfUnreadable (Trace file harts cycles) status = (status ≡ Memory) ⊎ (status ≡ Refused)
+IsOfUnreadable (Selftest statements) status = (status ≡ Memory) ⊎ (status ≡ Refused)
 
--- The statuses where the file is in order and the input isn't.
+-- The statuses where what is read is in order and the input isn't.
 abbrev pub IsOfUnaccepted : Status → Type 0
 IsOfUnaccepted status = (status ≡ Memory) ⊎ (status ≡ InputRefused)
 
@@ -348,8 +381,8 @@ IsOfUnaccepted status = (status ≡ Memory) ⊎ (status ≡ InputRefused)
 
 pub record IsAnswer (call : Call) (status : Status) : Type 0 where
   -- Each status has its cause. The status, the bytes that were put, and those that `out` and `err`
-  -- got are those of one image. It is faithful to the bytes that were fetched, or these are its
-  -- bytes or its ELF file.
+  -- got are those of one image. It is faithful to the bytes that were fetched or generated, or
+  -- these are its bytes or its ELF file.
   pub answer : HasCause call status
   -- Words that are no command.
   pub usage : status ≡ Usage → IsNoCommand call.request.words
@@ -362,10 +395,11 @@ pub record IsAnswer (call : Call) (status : Status) : Type 0 where
   -- Only a command that runs something faults, and no image of a text traps.
   pub source_fault : status ≡ SourceFault → IsRun call.request.words
   pub trap : status ≡ Trap → IsExec call.request.words
-  -- Only a command that runs has an input.
-  pub input : status ≡ InputRefused → IsRun call.request.words
-  pub left : ¬ IsRun call.request.words → IsSame call.request.input.left
-  pub input_faults : ¬ IsRun call.request.words → IsSame call.request.input.faults
+  -- Only a command that reads a file fetches, and nothing is taken for one that has no input.
+  pub fetch_faults : ¬ IsFetch call.request.words → IsSame call.request.faults
+  pub input : status ≡ InputRefused → HasInput call.request.words
+  pub left : ¬ HasInput call.request.words → IsSame call.request.input.left
+  pub input_faults : ¬ HasInput call.request.words → IsSame call.request.input.faults
   -- What is in order is not refused, and what isn't in order is refused, the file before the input.
   pub complete : (command : Command) (bytes text : List ℕ) → IsInOrder call command bytes text
       → IsReadable command bytes

@@ -1,6 +1,6 @@
 -- The outcome of a command, for the file and the input that it reads.
 use Rattle.std.specs.Prelude.{◌≡◌, ℕ, ◌+◌, ◌-◌, ◌≤◌, ◌⊎◌, List, [], ◌∷◌, ◌++◌, length, map, min}
-use Rattle.std.specs.Prelude.{vec_len, slice_get, Option, Some, None, Result, Ok, Err}
+use Rattle.std.specs.Prelude.{vec_len, slice_get, codes, Option, Some, None, Result, Ok, Err}
 use Rattle.std.specs.List.{range_with_len}
 use Rattle.fk_num.specs.Limits.{most_data_words, most_text_bytes}
 use Rattle.fk_image.specs.declared.Image.{Image}
@@ -11,7 +11,7 @@ use Rattle.fk_top_input.specs.declared.fault.InputFault.{InputFault}
 use Rattle.fk_top_input.specs.Input.{input_of}
 use Rattle.fk_top_words.specs.Arguments.{Text}
 use Rattle.fk_top_words.specs.Command.{Command, Run, Build, Exec, ListCode, Elf}
-use Rattle.fk_top_words.specs.Command.{Unelf, Audit, Trace}
+use Rattle.fk_top_words.specs.Command.{Unelf, Audit, Trace, Selftest}
 use Rattle.fk_machine.specs.declared.stand.Stand.{Stand}
 use Rattle.fk_machine.specs.declared.stand.Stand.TheVariants.{Running, Finished, Faulted, Trapped}
 use Rattle.fk_machine.specs.Cycle.{Machine, machine_opening}
@@ -23,6 +23,7 @@ use Rattle.fk_trace.specs.Early.{trace_of}
 use Rattle.fk_layout_globals.specs.Rows.{Row}
 use Rattle.fk_compile_text.specs.Text.{HasGlobal}
 use Rattle.fk_compile.specs.Faithful.{IsFaithful}
+use Rattle.fk_compile.specs.Events.{TellsEvents}
 use Rattle.fk_top.specs.declared.kinds.FaultKind.TheVariants as fault
 use Rattle.fk_top.specs.declared.report.Report.{Report}
 use Rattle.fk_top.specs.declared.report.Report.TheVariants as reports
@@ -235,11 +236,13 @@ pub record RunsSource (source text : List ℕ) (harts cycles : ℕ) (show : Opti
   pub is_shown : IsShown source show shown
   pub ends : EndsOn image text harts cycles (Prints shown) outcome
 
--- An image of the source was run, and its run was traced; or the input was refused.
+-- An image of the source was run, and its run was traced, with the events of the source's
+-- operations; or the input was refused.
 pub record TracesSource (source text : List ℕ) (harts cycles : ℕ) (outcome : Outcome)
     : Type 0 where
   pub image : Image
   pub compiled : IsFaithful source image
+  pub events : TellsEvents source image
   pub ends : EndsOn image text harts cycles Traces outcome
 
 -- The machine of an image ran on the numbers of the text, and was audited.
@@ -298,7 +301,8 @@ pub record PutsFromElf (file name : List ℕ) (outcome : Outcome) : Type 0 where
   pub spelled : IsImageOf bytes image
   pub is : outcome ≡ wrote name bytes
 
--- The outcome of a command, for the bytes that it read and those of the input.
+-- The outcome of a command, for the bytes that it read and those of the input. A generated text is
+-- run by 64 harts, without input numbers and for at most 2^32 - 1 cycles, and `c` is shown.
 abbrev pub ComesTo : Command → List ℕ → List ℕ → Outcome → Type 0
 ComesTo (Run file harts cycles show) source text outcome =
     RefusesSource source outcome ⊎ LacksGlobal source show outcome
@@ -316,3 +320,6 @@ ComesTo (Audit file harts cycles) source text outcome = RefusesSource source out
     ⊎ AuditsSource source text harts cycles outcome
 ComesTo (Trace file harts cycles) source text outcome = RefusesSource source outcome
     ⊎ TracesSource source text harts cycles outcome
+ComesTo (Selftest statements) source text outcome =
+    RefusesSource source outcome ⊎ LacksGlobal source (Some (codes "c")) outcome
+    ⊎ RunsSource source [] 64 4294967295 (Some (codes "c")) outcome

@@ -11,50 +11,56 @@ use Rattle.fk_top_input.specs.declared.fault.InputFault.TheVariants as input
 use Rattle.fk_compile_text.specs.declared.refusal.Refusal.{Refusal}
 use Rattle.fk_compile_text.specs.declared.refusal.Refusal.TheVariants as refusal
 use Rattle.fk_compile_text.specs.Refusal as sources
+use Rattle.fk_top.specs.declared.reason.Reason.{Reason}
+use Rattle.fk_top.specs.declared.reason.Reason.TheVariants as reasons
 use Rattle.fk_top.specs.declared.report.Report.{Report}
-use Rattle.fk_top.specs.declared.report.Report.TheVariants as reports
+use Rattle.fk_top.specs.declared.report.Report.TheVariants.{Refused}
 use Rattle.fk_top.specs.Report.{line_of, frame_line}
+
+-- The line of a refusal with this reason.
+abbrev pub reason_line : Reason → List ℕ
+reason_line reason = line_of (Refused reason)
 
 -- The line that reports why a source is refused. `Memory` is no refusal, and has no line.
 abbrev pub refusal_line : Refusal → Option (List ℕ)
-refusal_line (refusal.BadByte place) = Some (line_of (reports.BadByte place))
-refusal_line (refusal.OpenComment place) = Some (line_of (reports.OpenComment place))
-refusal_line (refusal.OpenString place) = Some (line_of (reports.OpenString place))
-refusal_line (refusal.WideNumber place) = Some (line_of (reports.WideNumber place))
-refusal_line (refusal.Unexpected place) = Some (line_of (reports.Unexpected place))
-refusal_line refusal.EndOfText = Some (line_of reports.EndOfText)
-refusal_line (refusal.Nesting place) = Some (line_of (reports.Nesting place))
-refusal_line (refusal.Rule place number) = Some (line_of (reports.Rule place number))
-refusal_line (refusal.TooManySites count) = Some (line_of (reports.TooManySites count))
+refusal_line (refusal.BadByte place) = Some (reason_line (reasons.BadByte place))
+refusal_line (refusal.OpenComment place) = Some (reason_line (reasons.OpenComment place))
+refusal_line (refusal.OpenString place) = Some (reason_line (reasons.OpenString place))
+refusal_line (refusal.WideNumber place) = Some (reason_line (reasons.WideNumber place))
+refusal_line (refusal.Unexpected place) = Some (reason_line (reasons.Unexpected place))
+refusal_line refusal.EndOfText = Some (reason_line reasons.EndOfText)
+refusal_line (refusal.Nesting place) = Some (reason_line (reasons.Nesting place))
+refusal_line (refusal.Rule place number) = Some (reason_line (reasons.Rule place number))
+refusal_line (refusal.TooManySites count) = Some (reason_line (reasons.TooManySites count))
 refusal_line (refusal.FrameTooLarge name words) = Some (frame_line name.items words)
-refusal_line (refusal.GlobalsTooLarge words) = Some (line_of (reports.GlobalsTooLarge words))
-refusal_line (refusal.SourceTooLong bytes) = Some (line_of (reports.SourceTooLong bytes))
+refusal_line (refusal.GlobalsTooLarge words) = Some (reason_line (reasons.GlobalsTooLarge words))
+refusal_line (refusal.SourceTooLong bytes) = Some (reason_line (reasons.SourceTooLong bytes))
 refusal_line (refusal.Memory e) = None
 
 -- The report of why bytes are no image. `Memory` has none.
 abbrev pub image_report_of : ImageFault → Option Report
-image_report_of fault.Magic = Some reports.Magic
-image_report_of (fault.Version version) = Some (reports.Version version)
-image_report_of (fault.Short bytes wanted) = Some (reports.Short bytes wanted)
-image_report_of (fault.LongTail wanted) = Some (reports.LongTail wanted)
-image_report_of (fault.BadTable entry) = Some (reports.BadTable entry)
-image_report_of (fault.BadWord word) = Some (reports.BadWord word)
+image_report_of fault.Magic = Some (Refused reasons.Magic)
+image_report_of (fault.Version version) = Some (Refused (reasons.Version version))
+image_report_of (fault.Short bytes wanted) = Some (Refused (reasons.Short bytes wanted))
+image_report_of (fault.LongTail wanted) = Some (Refused (reasons.LongTail wanted))
+image_report_of (fault.BadTable entry) = Some (Refused (reasons.BadTable entry))
+image_report_of (fault.BadWord word) = Some (Refused (reasons.BadWord word))
 image_report_of (fault.Memory e) = None
 
 -- The report of why bytes are the file of no image. `Memory` has none.
 abbrev pub elf_report_of : ElfFault → Option Report
-elf_report_of (elf.ElfHeader offset) = Some (reports.ElfHeader offset)
-elf_report_of (elf.ElfShort bytes wanted) = Some (reports.ElfShort bytes wanted)
-elf_report_of (elf.ElfTail wanted) = Some (reports.ElfTail wanted)
-elf_report_of elf.ElfSizes = Some reports.ElfSizes
-elf_report_of (elf.ElfTable entry) = Some (reports.ElfTable entry)
+elf_report_of (elf.ElfHeader offset) = Some (Refused (reasons.ElfHeader offset))
+elf_report_of (elf.ElfShort bytes wanted) = Some (Refused (reasons.ElfShort bytes wanted))
+elf_report_of (elf.ElfTail wanted) = Some (Refused (reasons.ElfTail wanted))
+elf_report_of elf.ElfSizes = Some (Refused reasons.ElfSizes)
+elf_report_of (elf.ElfTable entry) = Some (Refused (reasons.ElfTable entry))
 elf_report_of (elf.Memory e) = None
 
 -- The report of why an input text is refused. `Memory` has none.
 abbrev pub input_report_of : InputFault → Option Report
-input_report_of (input.NotANumber word) = Some (reports.NotANumber word)
-input_report_of (input.OutOfRange word) = Some (reports.OutOfRange word)
-input_report_of (input.TooMany word) = Some (reports.TooMany word)
+input_report_of (input.NotANumber word) = Some (Refused (reasons.NotANumber word))
+input_report_of (input.OutOfRange word) = Some (Refused (reasons.OutOfRange word))
+input_report_of (input.TooMany word) = Some (Refused (reasons.TooMany word))
 input_report_of input.Memory = None
 
 -- The source is refused, and the line says why.

@@ -11,18 +11,12 @@ use Rattle.fk_top.specs.declared.kinds.FaultKind.{FaultKind}
 use Rattle.fk_top.specs.declared.kinds.FaultKind.TheVariants as fault
 use Rattle.fk_top.specs.declared.kinds.TrapKind.{TrapKind}
 use Rattle.fk_top.specs.declared.kinds.TrapKind.TheVariants as trap
+use Rattle.fk_top.specs.declared.reason.Reason.{Reason}
+use Rattle.fk_top.specs.declared.reason.Reason.TheVariants as reasons
 use Rattle.fk_top.specs.declared.report.Report.{Report}
-use Rattle.fk_top.specs.declared.report.Report.TheVariants.{Finished, Built, Listed, Fault, Stopped}
-use Rattle.fk_top.specs.declared.report.Report.TheVariants.{Trap, BadByte, OpenComment, OpenString}
-use Rattle.fk_top.specs.declared.report.Report.TheVariants.{WideNumber, Unexpected, EndOfText}
-use Rattle.fk_top.specs.declared.report.Report.TheVariants.{Nesting, Rule, TooManySites}
-use Rattle.fk_top.specs.declared.report.Report.TheVariants.{GlobalsTooLarge, SourceTooLong, Magic}
-use Rattle.fk_top.specs.declared.report.Report.TheVariants.{Version, Short, LongTail, BadTable}
-use Rattle.fk_top.specs.declared.report.Report.TheVariants.{BadWord, NotANumber, OutOfRange}
-use Rattle.fk_top.specs.declared.report.Report.TheVariants.{TooMany, CommandLine}
-use Rattle.fk_top.specs.declared.report.Report.TheVariants.{ReadFault, Wrote}
-use Rattle.fk_top.specs.declared.report.Report.TheVariants.{ElfHeader, ElfShort, ElfTail}
-use Rattle.fk_top.specs.declared.report.Report.TheVariants.{ElfSizes, ElfTable}
+use Rattle.fk_top.specs.declared.report.Report.TheVariants.{Finished, Built, Listed, Wrote}
+use Rattle.fk_top.specs.declared.report.Report.TheVariants.{Fault, Stopped, Trap, Refused}
+use Rattle.fk_top.specs.declared.report.Report.TheVariants.{CommandLine, ReadFault}
 
 -- The fault of an operation, by its kind. Most kinds have none.
 abbrev pub fault_kind : ℕ → FaultKind
@@ -63,6 +57,37 @@ trap_name trap.Ebreak = codes "Ebreak"
 abbrev pub place_text : Place → List ℕ
 place_text place = decimal place.line ++ 58 ∷ decimal place.column
 
+-- The text of a refusal with this reason.
+abbrev pub reason_text : Reason → List ℕ
+reason_text (reasons.BadByte place) = codes "refused 1 BadByte at " ++ place_text place
+reason_text (reasons.OpenComment place) = codes "refused 2 OpenComment at " ++ place_text place
+reason_text (reasons.OpenString place) = codes "refused 3 OpenString at " ++ place_text place
+reason_text (reasons.WideNumber place) = codes "refused 4 WideNumber at " ++ place_text place
+reason_text (reasons.Unexpected place) = codes "refused 5 Unexpected at " ++ place_text place
+reason_text reasons.EndOfText = codes "refused 6 EndOfText"
+reason_text (reasons.Nesting place) = codes "refused 7 Nesting at " ++ place_text place
+reason_text (reasons.Rule place number) =
+    codes "refused 8 Rule " ++ decimal number ++ codes " at " ++ place_text place
+reason_text (reasons.TooManySites count) = codes "refused 9 TooManySites " ++ decimal count
+reason_text (reasons.GlobalsTooLarge words) = codes "refused 11 GlobalsTooLarge " ++ decimal words
+reason_text (reasons.SourceTooLong bytes) = codes "refused 12 SourceTooLong " ++ decimal bytes
+reason_text reasons.Magic = codes "refused 13 Magic"
+reason_text (reasons.Version version) = codes "refused 14 Version " ++ decimal version
+reason_text (reasons.Short bytes wanted) =
+    codes "refused 15 Short " ++ decimal bytes ++ codes " " ++ decimal wanted
+reason_text (reasons.LongTail wanted) = codes "refused 16 LongTail " ++ decimal wanted
+reason_text (reasons.BadTable entry) = codes "refused 17 BadTable " ++ decimal entry
+reason_text (reasons.BadWord word) = codes "refused 18 BadWord " ++ decimal word
+reason_text (reasons.NotANumber word) = codes "refused 19 NotANumber " ++ decimal word
+reason_text (reasons.OutOfRange word) = codes "refused 20 OutOfRange " ++ decimal word
+reason_text (reasons.TooMany word) = codes "refused 21 TooMany " ++ decimal word
+reason_text (reasons.ElfHeader offset) = codes "refused 27 ElfHeader " ++ decimal offset
+reason_text (reasons.ElfShort bytes wanted) =
+    codes "refused 28 ElfShort " ++ decimal bytes ++ codes " " ++ decimal wanted
+reason_text (reasons.ElfTail wanted) = codes "refused 29 ElfTail " ++ decimal wanted
+reason_text reasons.ElfSizes = codes "refused 30 ElfSizes"
+reason_text (reasons.ElfTable entry) = codes "refused 31 ElfTable " ++ decimal entry
+
 abbrev pub text_of : Report → List ℕ
 text_of (Finished cycles) = codes "finished after " ++ decimal cycles ++ codes " cycles"
 text_of (Built words) = codes "built " ++ decimal words ++ codes " words"
@@ -76,34 +101,7 @@ text_of (Stopped cycles) = codes "stopped after " ++ decimal cycles ++ codes " c
 text_of (Trap kind pc hart cycles) =
     codes "trap " ++ trap_name kind ++ codes " at 0x" ++ eight_digits pc
     ++ codes " by hart " ++ decimal hart ++ codes " after " ++ decimal cycles ++ codes " cycles"
-text_of (BadByte place) = codes "refused 1 BadByte at " ++ place_text place
-text_of (OpenComment place) = codes "refused 2 OpenComment at " ++ place_text place
-text_of (OpenString place) = codes "refused 3 OpenString at " ++ place_text place
-text_of (WideNumber place) = codes "refused 4 WideNumber at " ++ place_text place
-text_of (Unexpected place) = codes "refused 5 Unexpected at " ++ place_text place
-text_of EndOfText = codes "refused 6 EndOfText"
-text_of (Nesting place) = codes "refused 7 Nesting at " ++ place_text place
-text_of (Rule place number) =
-    codes "refused 8 Rule " ++ decimal number ++ codes " at " ++ place_text place
-text_of (TooManySites count) = codes "refused 9 TooManySites " ++ decimal count
-text_of (GlobalsTooLarge words) = codes "refused 11 GlobalsTooLarge " ++ decimal words
-text_of (SourceTooLong bytes) = codes "refused 12 SourceTooLong " ++ decimal bytes
-text_of Magic = codes "refused 13 Magic"
-text_of (Version version) = codes "refused 14 Version " ++ decimal version
-text_of (Short bytes wanted) =
-    codes "refused 15 Short " ++ decimal bytes ++ codes " " ++ decimal wanted
-text_of (LongTail wanted) = codes "refused 16 LongTail " ++ decimal wanted
-text_of (BadTable entry) = codes "refused 17 BadTable " ++ decimal entry
-text_of (BadWord word) = codes "refused 18 BadWord " ++ decimal word
-text_of (NotANumber word) = codes "refused 19 NotANumber " ++ decimal word
-text_of (OutOfRange word) = codes "refused 20 OutOfRange " ++ decimal word
-text_of (TooMany word) = codes "refused 21 TooMany " ++ decimal word
-text_of (ElfHeader offset) = codes "refused 27 ElfHeader " ++ decimal offset
-text_of (ElfShort bytes wanted) =
-    codes "refused 28 ElfShort " ++ decimal bytes ++ codes " " ++ decimal wanted
-text_of (ElfTail wanted) = codes "refused 29 ElfTail " ++ decimal wanted
-text_of ElfSizes = codes "refused 30 ElfSizes"
-text_of (ElfTable entry) = codes "refused 31 ElfTable " ++ decimal entry
+text_of (Refused reason) = reason_text reason
 text_of CommandLine = codes "refused command line"
 text_of ReadFault = codes "read fault"
 

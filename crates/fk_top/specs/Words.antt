@@ -1,21 +1,37 @@
--- What the commands read, and which of them run something, put a file or run an image.
+-- What the commands read, and which of them run something, take an input, put a file or run an
+-- image.
 use Rattle.std.specs.Prelude.{◌+◌, ℕ, List}
 use Rattle.fk_num.specs.Limits.{most_text_bytes}
 use Rattle.fk_top_words.specs.Arguments.{Text}
 use Rattle.fk_top_words.specs.Command.{Command, Run, Build, Exec, ListCode, Elf}
-use Rattle.fk_top_words.specs.Command.{Unelf, Audit, Trace, Reads}
+use Rattle.fk_top_words.specs.Command.{Unelf, Audit, Trace, Selftest, Reads}
+use Rattle.fk_top.specs.declared.command.OriginWords.{OriginWords}
+use Rattle.fk_top.specs.declared.command.OriginWords.TheVariants as words
 
--- The command runs an image: that of a source, or one given by its bytes.
+-- The command runs an image: that of a source or of a generated text, or one given by its bytes.
 abbrev pub Runs : Command → Type 0
 Runs (Run file harts cycles show) = Unit {0}
 Runs (Exec image harts cycles) = Unit {0}
 Runs (Audit file harts cycles) = Unit {0}
 Runs (Trace file harts cycles) = Unit {0}
+Runs (Selftest statements) = Unit {0}
 Runs command = ⊥
 
 -- The words are a command that runs.
 abbrev pub IsRun : List Text → Type 0
 IsRun words = (command : Command) × Reads words command × Runs command
+
+-- The command takes an input.
+abbrev pub TakesInput : Command → Type 0
+TakesInput (Run file harts cycles show) = Unit {0}
+TakesInput (Exec image harts cycles) = Unit {0}
+TakesInput (Audit file harts cycles) = Unit {0}
+TakesInput (Trace file harts cycles) = Unit {0}
+TakesInput command = ⊥
+
+-- The words are a command that takes an input.
+abbrev pub HasInput : List Text → Type 0
+HasInput words = (command : Command) × Reads words command × TakesInput command
 
 -- The command puts a file.
 abbrev pub Puts : Command → Type 0
@@ -32,31 +48,38 @@ IsPut words = (command : Command) × Reads words command × Puts command
 abbrev pub IsExec : List Text → Type 0
 IsExec words = (image : Text) × (harts : ℕ) × (cycles : ℕ) × Reads words (Exec image harts cycles)
 
--- The file that a command reads.
-abbrev pub file_of : Command → Text
-file_of (Run file harts cycles show) = file
-file_of (Build file image) = file
-file_of (Exec image harts cycles) = image
-file_of (ListCode image) = image
-file_of (Elf image file) = image
-file_of (Unelf file image) = file
-file_of (Audit file harts cycles) = file
-file_of (Trace file harts cycles) = file
+-- Where the bytes that a command reads come from: the first ones of a file, at most so many, or the
+-- generated text with so many statements.
+pub data Origin : Type 0 where
+  FirstOf : (file : Text) (most : ℕ) → Origin
+  Generated : (statements : ℕ) → Origin
 
--- The most bytes of its file that a command reads: one more than a source may have, or than an
--- image or its ELF file can have.
-abbrev pub most_bytes : Command → ℕ
-most_bytes (Run file harts cycles show) = most_text_bytes + 1
-most_bytes (Build file image) = most_text_bytes + 1
-most_bytes (Exec image harts cycles) = 5434905
-most_bytes (ListCode image) = 5434905
-most_bytes (Elf image file) = 5434905
-most_bytes (Unelf file image) = 5435037
-most_bytes (Audit file harts cycles) = most_text_bytes + 1
-most_bytes (Trace file harts cycles) = most_text_bytes + 1
+-- Of a file a command reads at most one byte more than a source may have, or than an image or its
+-- ELF file can have.
+abbrev pub origin_of : Command → Origin
+origin_of (Run file harts cycles show) = FirstOf file (most_text_bytes + 1)
+origin_of (Build file image) = FirstOf file (most_text_bytes + 1)
+origin_of (Exec image harts cycles) = FirstOf image 5434905
+origin_of (ListCode image) = FirstOf image 5434905
+origin_of (Elf image file) = FirstOf image 5434905
+origin_of (Unelf file image) = FirstOf file 5435037
+origin_of (Audit file harts cycles) = FirstOf file (most_text_bytes + 1)
+origin_of (Trace file harts cycles) = FirstOf file (most_text_bytes + 1)
+origin_of (Selftest statements) = Generated statements
 
--- The most bytes of the input that a command takes: one more than an input text may have if it
--- runs, else none.
+abbrev pub origin_from : OriginWords → Origin
+origin_from (words.File file most) = FirstOf file.now most
+origin_from (words.Generated statements) = Generated statements
+
+abbrev pub IsFile : Origin → Type 0
+IsFile (FirstOf file most) = Unit {0}
+IsFile (Generated statements) = ⊥
+
+-- The words are a command that reads a file.
+abbrev pub IsFetch : List Text → Type 0
+IsFetch words = (command : Command) × Reads words command × IsFile (origin_of command)
+
+-- The most bytes of the input that a command takes: one more than an input text may have, or none.
 abbrev pub most_input : Command → ℕ
 most_input (Run file harts cycles show) = most_text_bytes + 1
 most_input (Build file image) = 0
@@ -66,3 +89,4 @@ most_input (Elf image file) = 0
 most_input (Unelf file image) = 0
 most_input (Audit file harts cycles) = most_text_bytes + 1
 most_input (Trace file harts cycles) = most_text_bytes + 1
+most_input (Selftest statements) = 0

@@ -1,8 +1,8 @@
-//! The file and the input of a command.
+//! What a command reads.
 
 ghost use Rattle.std.specs.Prelude.{◌≡◌};
 ghost use Rattle.fk_top_words.specs.Command.{command_of};
-ghost use Rattle.fk_top.specs.Words.{file_of, most_bytes, most_input};
+ghost use Rattle.fk_top.specs.Words.{most_input, origin_from, origin_of};
 
 use fk_num::MOST_TEXT_BYTES;
 use fk_top_words::CommandWords;
@@ -13,39 +13,40 @@ const IMAGE_LIMIT: usize = 5_434_904;
 /// The most bytes of the ELF file of an image. One more is fetched too.
 const ELF_LIMIT: usize = 5_435_036;
 
-/// The name of the file that a command reads.
-pub fn file_of<'a>(command: CommandWords<'a>) -> &'a str
-    ensures { result.now ≡ file_of (command_of command.entry) }
+/// Where the bytes that a command reads come from.
+#[derive(Clone, Copy)]
+pub enum OriginWords<'a> {
+    /// The first bytes of the file of this name, at most so many.
+    File(&'a str, usize),
+    /// The generated text with so many statements.
+    Generated(u32),
+}
+
+/// Where the bytes that a command reads come from.
+pub fn origin_of<'a>(command: CommandWords<'a>) -> OriginWords<'a>
+    ensures { origin_from result ≡ origin_of (command_of command.entry) }
 {
     match command {
-        CommandWords::Run(run, _) | CommandWords::Exec(run) => run.file,
-        CommandWords::Audit(run) | CommandWords::Trace(run) => run.file,
-        CommandWords::Build(file, _) | CommandWords::Unelf(file, _) => file,
-        CommandWords::List(image) | CommandWords::Elf(image, _) => image,
+        CommandWords::Run(file, _, _)
+        | CommandWords::Build(file, _)
+        | CommandWords::Audit(file, _)
+        | CommandWords::Trace(file, _) => OriginWords::File(file, MOST_TEXT_BYTES + 1),
+        CommandWords::Exec(image, _) | CommandWords::List(image) | CommandWords::Elf(image, _) => {
+            OriginWords::File(image, IMAGE_LIMIT + 1)
+        }
+        CommandWords::Unelf(file, _) => OriginWords::File(file, ELF_LIMIT + 1),
+        CommandWords::Selftest(statements) => OriginWords::Generated(statements),
     }
 }
 
-/// The most bytes of its file that a command reads.
-pub fn most_bytes(command: CommandWords) -> usize
-    ensures { result ≡ most_bytes (command_of command.entry) }
-{
-    match command {
-        CommandWords::Run(_, _) | CommandWords::Build(_, _) => MOST_TEXT_BYTES + 1,
-        CommandWords::Audit(_) | CommandWords::Trace(_) => MOST_TEXT_BYTES + 1,
-        CommandWords::Exec(_) | CommandWords::List(_) => IMAGE_LIMIT + 1,
-        CommandWords::Elf(_, _) => IMAGE_LIMIT + 1,
-        CommandWords::Unelf(_, _) => ELF_LIMIT + 1,
-    }
-}
-
-/// The most bytes of the input that a command takes: none if it doesn't run.
+/// The most bytes of the input that a command takes, or none.
 pub fn most_input(command: CommandWords) -> usize
     ensures { result ≡ most_input (command_of command.entry) }
 {
     match command {
-        CommandWords::Run(_, _) | CommandWords::Exec(_) => MOST_TEXT_BYTES + 1,
-        CommandWords::Audit(_) | CommandWords::Trace(_) => MOST_TEXT_BYTES + 1,
+        CommandWords::Run(_, _, _) | CommandWords::Exec(_, _) => MOST_TEXT_BYTES + 1,
+        CommandWords::Audit(_, _) | CommandWords::Trace(_, _) => MOST_TEXT_BYTES + 1,
         CommandWords::Build(_, _) | CommandWords::List(_) => 0,
-        CommandWords::Elf(_, _) | CommandWords::Unelf(_, _) => 0,
+        CommandWords::Elf(_, _) | CommandWords::Unelf(_, _) | CommandWords::Selftest(_) => 0,
     }
 }

@@ -4,19 +4,20 @@ ghost use Rattle.std.specs.Prelude.{◌+◌, ◌≡◌, ◌⊎◌, map, string_b
 ghost use Rattle.fk_num.specs.Limits.{most_text_bytes};
 ghost use Rattle.fk_ports.specs.Known.{GivesAtMost};
 ghost use Rattle.fk_top_words.specs.Command.{command_of};
-ghost use Rattle.fk_top.specs.Words.{IsRun};
+ghost use Rattle.fk_top.specs.Words.{HasInput, IsFetch};
 ghost use Rattle.fk_top.specs.Outcome.{ComesTo, silent};
 ghost use Rattle.fk_top.specs.Report.{line_of};
 ghost use Rattle.fk_top.specs.Ending.{outcome_of};
 ghost use Rattle.fk_top.specs.Call.{Ends, given_of, request_of};
 
 use crate::bytes::{list_bytes, run_bytes};
-use crate::command::{file_of, most_bytes};
+use crate::command::origin_of;
 use crate::elf::{put_elf, put_image};
 use crate::ending::{Ending, silent};
 use crate::input::take_input;
+use crate::reading::read_bytes;
 use crate::report::Report;
-use crate::source::{audit_source, build_source, run_source, trace_source};
+use crate::source::{audit_source, build_source, run_source, test_source, trace_source};
 use crate::status::Status;
 use fk_ports::{Source, Store, StoreFault};
 use fk_top_words::{CommandWords, WordsFault, read_words};
@@ -44,18 +45,20 @@ pub fn find_ending<'a, F: Store, S: Source>(
         (GivesAtMost (most_text_bytes + 1) (S.left input.old) (S.left input.new)) }
     ensures files { F.files files.new ≡ F.files files.old }
     ensures put_faults { F.put_faults files.new ≡ F.put_faults files.old }
-    ensures left { ¬ IsRun (map string_bytes words.now) → S.left input.new ≡ S.left input.old }
-    ensures input_faults { ¬ IsRun (map string_bytes words.now)
+    ensures fetch_faults { ¬ IsFetch (map string_bytes words.now)
+        → F.fetch_faults files.new ≡ F.fetch_faults files.old }
+    ensures left { ¬ HasInput (map string_bytes words.now) → S.left input.new ≡ S.left input.old }
+    ensures input_faults { ¬ HasInput (map string_bytes words.now)
         → S.faults input.new ≡ S.faults input.old }
 {
     let command = match read_words(alloc, words) {
         Ok(command) => command,
         Err(fault) => return no_command(alloc, fault),
     };
-    let mut bytes = Vec::new(alloc);
-    if let Err(fault) = files.fetch(file_of(command), most_bytes(command), &mut bytes) {
-        return unread(alloc, fault);
-    }
+    let bytes = match read_bytes(alloc, origin_of(command), files) {
+        Ok(bytes) => bytes,
+        Err(fault) => return unread(alloc, fault),
+    };
     match take_input(alloc, command, input) {
         Ok(text) => command_ending(alloc, command, bytes.as_slice(), text.as_slice()),
         Err(fault) => unread(alloc, fault),
@@ -97,13 +100,14 @@ fn command_ending<'a>(
         (λ e. ComesTo (command_of command.entry) bytes.now text.now (outcome_of e)) }
 {
     match command {
-        CommandWords::Run(run, show) => run_source(alloc, bytes, text, run, show),
+        CommandWords::Run(_, run, show) => run_source(alloc, bytes, text, run, show),
         CommandWords::Build(_, image) => build_source(alloc, bytes, image),
-        CommandWords::Exec(run) => run_bytes(alloc, bytes, text, run),
+        CommandWords::Exec(_, run) => run_bytes(alloc, bytes, text, run),
         CommandWords::List(_) => list_bytes(alloc, bytes),
         CommandWords::Elf(_, file) => put_elf(alloc, bytes, file),
         CommandWords::Unelf(_, image) => put_image(alloc, bytes, image),
-        CommandWords::Audit(run) => audit_source(alloc, bytes, text, run),
-        CommandWords::Trace(run) => trace_source(alloc, bytes, text, run),
+        CommandWords::Audit(_, run) => audit_source(alloc, bytes, text, run),
+        CommandWords::Trace(_, run) => trace_source(alloc, bytes, text, run),
+        CommandWords::Selftest(_) => test_source(alloc, bytes),
     }
 }

@@ -12,6 +12,8 @@ mod input;
 mod kinds;
 mod line;
 mod machine_run;
+mod reading;
+mod reason;
 mod refused;
 mod report;
 mod run;

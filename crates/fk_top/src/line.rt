@@ -41,3 +41,48 @@ pub fn append_place(line: &mut Line, place: Place)
     append(line, b":");
     append_number(line, u64::from(place.column));
 }
+
+/// A text without a number.
+pub fn plain(text: &[u8]) -> Line
+    requires { length text.now ≤ 30 }
+    ensures text { result.items ≡ text.now }
+    ensures len { array_vec_len result ≡ length text.now }
+{
+    let mut line = ArrayVec::new();
+    append(&mut line, text);
+    line
+}
+
+/// A text followed by a number.
+pub fn numbered(before: &[u8], number: u64) -> Line
+    requires { length before.now ≤ 30 }
+    ensures text { result.items ≡ before.now ++ decimal number }
+    ensures short { array_vec_len result ≤ 50 }
+{
+    let mut line = plain(before);
+    append_number(&mut line, number);
+    line
+}
+
+/// A text with a number in it.
+pub fn counted(before: &[u8], number: u32, after: &[u8]) -> Line
+    requires before { length before.now ≤ 30 }
+    requires after { length after.now ≤ 10 }
+    ensures text { result.items ≡ before.now ++ decimal number ++ after.now }
+    ensures short { array_vec_len result ≤ 60 }
+{
+    let mut line = numbered(before, u64::from(number));
+    append(&mut line, after);
+    line
+}
+
+/// A text followed by a place.
+pub fn placed(before: &[u8], place: Place) -> Line
+    requires { length before.now ≤ 30 }
+    ensures text { result.items ≡ before.now ++ place_text place }
+    ensures short { array_vec_len result ≤ 71 }
+{
+    let mut line = plain(before);
+    append_place(&mut line, place);
+    line
+}

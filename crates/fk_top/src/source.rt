@@ -1,6 +1,6 @@
 //! The outcome of a command for a source.
 
-ghost use Rattle.std.specs.Prelude.{◌⊎◌, ℕ, List, map, option_map, IfOk};
+ghost use Rattle.std.specs.Prelude.{◌⊎◌, ℕ, List, [], Some, codes, map, option_map, IfOk};
 ghost use Rattle.fk_image.specs.Limits.{IsWithinLimits};
 ghost use Rattle.fk_layout_globals.specs.View.{row_of};
 ghost use Rattle.fk_compile_text.specs.Text.{HasRows};
@@ -41,6 +41,20 @@ pub fn run_source<'a>(
         Ok(compiled) => run_and_show(alloc, compiled, text, run, show),
         Err(refusal) => refused_source(alloc, last_line_of(refusal)),
     }
+}
+
+/// Compiles a generated text, to be run by 64 harts, without input numbers and for at most 2^32 - 1
+/// cycles, and to show the variable `c`. Fails if there isn't enough memory.
+pub fn test_source<'a>(alloc: Global, source: &[u8]) -> Result<Ending<'a>, AllocError>
+    ensures { IfOk result (λ e. RefusesSource source.now (outcome_of e)
+        ⊎ LacksGlobal source.now (Some (codes "c")) (outcome_of e)
+        ⊎ RunsSource source.now [] 64 4294967295 (Some (codes "c")) (outcome_of e)) }
+{
+    let run = RunWords {
+        harts: 64,
+        cycles: u32::MAX,
+    };
+    run_source(alloc, source, &[], run, Some("c"))
 }
 
 // The image of a source is to be run, and to show the variable of a name, if one is given.

@@ -4,7 +4,7 @@ use Rattle.std.specs.Str.{bytes_eq}
 use Rattle.clap.specs.Walk.{Row}
 use Rattle.fk_top_words.specs.Arguments.{Text}
 use Rattle.fk_top_words.specs.Asked.{AsksFor, AsksOf}
-use Rattle.fk_top_words.specs.Command.{Command, Run, Build, Exec, ListCode, Elf, Unelf, Audit, Trace, OneCommand}
+use Rattle.fk_top_words.specs.Command.{Command, Run, Build, Exec, ListCode, Elf, Unelf, Audit, Trace, Selftest, OneCommand}
 use Rattle.fk_top_words.proofs.Whole.{asked, differ}
 
 -- a name is that of one command
@@ -104,6 +104,25 @@ same_asked name rows (Audit file harts cycles) (Unelf file' image') asks other =
 same_asked name rows (Trace file harts cycles) (Unelf file' image') asks other = apart name (codes "trace") (codes "unelf") refl asks.0 other.0
 same_asked name rows (Audit file harts cycles) (Trace file' harts' cycles') asks other = apart name (codes "audit") (codes "trace") refl asks.0 other.0
 same_asked name rows (Trace file harts cycles) (Audit file' harts' cycles') asks other = apart name (codes "trace") (codes "audit") refl asks.0 other.0
+same_asked name rows (Selftest statements) (Selftest statements') asks other =
+    let n : Some statements ≡ Some statements' = sym asks.1.statements_are ∙ other.1.statements_are in
+    cc
+same_asked name rows (Run file harts cycles show) (Selftest statements') asks other = apart name (codes "run") (codes "selftest") refl asks.0 other.0
+same_asked name rows (Selftest statements) (Run file' harts' cycles' show') asks other = apart name (codes "selftest") (codes "run") refl asks.0 other.0
+same_asked name rows (Build file image) (Selftest statements') asks other = apart name (codes "build") (codes "selftest") refl asks.0 other.0
+same_asked name rows (Selftest statements) (Build file' image') asks other = apart name (codes "selftest") (codes "build") refl asks.0 other.0
+same_asked name rows (Exec image harts cycles) (Selftest statements') asks other = apart name (codes "exec") (codes "selftest") refl asks.0 other.0
+same_asked name rows (Selftest statements) (Exec image' harts' cycles') asks other = apart name (codes "selftest") (codes "exec") refl asks.0 other.0
+same_asked name rows (ListCode image) (Selftest statements') asks other = apart name (codes "list") (codes "selftest") refl asks.0 other.0
+same_asked name rows (Selftest statements) (ListCode image') asks other = apart name (codes "selftest") (codes "list") refl asks.0 other.0
+same_asked name rows (Elf image file) (Selftest statements') asks other = apart name (codes "elf") (codes "selftest") refl asks.0 other.0
+same_asked name rows (Selftest statements) (Elf image' file') asks other = apart name (codes "selftest") (codes "elf") refl asks.0 other.0
+same_asked name rows (Unelf file image) (Selftest statements') asks other = apart name (codes "unelf") (codes "selftest") refl asks.0 other.0
+same_asked name rows (Selftest statements) (Unelf file' image') asks other = apart name (codes "selftest") (codes "unelf") refl asks.0 other.0
+same_asked name rows (Audit file harts cycles) (Selftest statements') asks other = apart name (codes "audit") (codes "selftest") refl asks.0 other.0
+same_asked name rows (Selftest statements) (Audit file' harts' cycles') asks other = apart name (codes "selftest") (codes "audit") refl asks.0 other.0
+same_asked name rows (Trace file harts cycles) (Selftest statements') asks other = apart name (codes "trace") (codes "selftest") refl asks.0 other.0
+same_asked name rows (Selftest statements) (Trace file' harts' cycles') asks other = apart name (codes "selftest") (codes "trace") refl asks.0 other.0
 
 pub one_command : OneCommand
 one_command words c d reads other =

@@ -39,7 +39,8 @@ app = record {
   subs = command (codes "run") run_parts ∷ command (codes "build") put_parts
       ∷ command (codes "exec") exec_parts ∷ command (codes "list") list_parts
       ∷ command (codes "elf") put_parts ∷ command (codes "unelf") put_parts
-      ∷ command (codes "audit") exec_parts ∷ command (codes "trace") exec_parts ∷ [];
+      ∷ command (codes "audit") exec_parts ∷ command (codes "trace") exec_parts
+      ∷ command (codes "selftest") list_parts ∷ [];
 }
 
 pub built-written : built written_app ≡ app

@@ -13,14 +13,14 @@ use Rattle.clap.specs.declared.error.kind.ErrorKind.TheVariants.{OutOfMemory}
 use Rattle.std.proofs.lemmas.Str.{IsUtf8-string_bytes}
 use Rattle.clap.specs.Simple.{App, is_simple, subcommand_of}
 use Rattle.fk_top_words.specs.Arguments.{Text, Part, File, Harts, Cycles, Show, Image, Argument, Values, Gives, Spells, all_values, values_of}
-use Rattle.fk_top_words.specs.Asked.{AsksFor, AsksOf, RunsBy, number_of}
-use Rattle.fk_top_words.specs.Command.{Command, Run, Build, Exec, ListCode, Elf, Unelf, Audit, Trace, Reads, ReadsRun, ReadsBehind, once_or_never, only_file, two_files}
+use Rattle.fk_top_words.specs.Asked.{AsksFor, AsksOf, RunsBy, StatementsBy, number_of}
+use Rattle.fk_top_words.specs.Command.{Command, Run, Build, Exec, ListCode, Elf, Unelf, Audit, Trace, Selftest, Reads, ReadsStatements, ReadsRun, ReadsBehind, once_or_never, only_file, two_files}
 use Rattle.fk_top_words.specs.Written.{id_of, run_parts, put_parts, exec_parts, list_parts, written_app}
 use Rattle.fk_top_words.proofs.Rules.{IsCommand, exec_command, is_in, list_command, put_command, run_command}
 use Rattle.fk_top_words.proofs.Given.{IsOnce, at, first-rows, given, lacks, no_values, rows, some_values}
 use Rattle.fk_top_words.proofs.Taken.{Adds, AreIn, AreTexts, rows_at_end, sound}
 use Rattle.fk_top_words.proofs.Spelled.{gets}
-use Rattle.fk_top_words.proofs.Lines.{Behind, Named, is_run, is_build, is_exec, is_list, is_elf, is_unelf, is_audit, is_trace, other, named, behind_run, behind_build, behind_exec, behind_list, behind_elf, behind_unelf, behind_audit, behind_trace, no_words, other_word}
+use Rattle.fk_top_words.proofs.Lines.{Behind, Named, is_run, is_build, is_exec, is_list, is_elf, is_unelf, is_audit, is_trace, is_selftest, other, named, behind_run, behind_build, behind_exec, behind_list, behind_elf, behind_unelf, behind_audit, behind_trace, behind_selftest, no_words, other_word}
 
 pub differ : (a b : Text) → bytes_eq a b ≡ false → a ≡ b → ⊥
 differ a b e same = let t = (bytes_eq-Decides a b).1 same in let bad : true ≡ false = sym t ∙ e in cc
@@ -115,6 +115,17 @@ reads_list words end adds image file_is =
     let i = outside-is list_parts words end adds Image refl in
     record { arguments = adds.arguments; spelled = adds.spelled; values_are = rw (f, h, c, s, i) refl }
 
+reads_selftest : (words : List Text) (end : List Row) (adds : Adds list_parts [] false words end) (statements : ℕ) → StatementsBy end statements → ReadsStatements words statements
+reads_selftest words end adds statements asks =
+    let t = read_text (codes "file") end statements asks.statements_are in
+    record {
+      text = t.text;
+      given = reads_list words end adds t.text t.found;
+      statements_are = t.number;
+      some = asks.some;
+      few = asks.few;
+    }
+
 -- what is taken: the name of a command and its values, and each command that they ask for is that of the words
 pub record IsTaken (words : List Text) : Type 0 where
   pub name : Text
@@ -134,6 +145,7 @@ asked_run words end adds (Elf image file) asks = absurd (differ (codes "run") (c
 asked_run words end adds (Unelf file image) asks = absurd (differ (codes "run") (codes "unelf") refl asks.0)
 asked_run words end adds (Audit file harts cycles) asks = absurd (differ (codes "run") (codes "audit") refl asks.0)
 asked_run words end adds (Trace file harts cycles) asks = absurd (differ (codes "run") (codes "trace") refl asks.0)
+asked_run words end adds (Selftest statements) asks = absurd (differ (codes "run") (codes "selftest") refl asks.0)
 
 asked_build : (words : List Text) (end : List Row) → Adds put_parts [] false words end → (command : Command) → AsksFor (codes "build") end command → ReadsBehind (codes "build") words command
 asked_build words end adds (Run file harts cycles show) asks = absurd (differ (codes "build") (codes "run") refl asks.0)
@@ -144,6 +156,7 @@ asked_build words end adds (Elf image file) asks = absurd (differ (codes "build"
 asked_build words end adds (Unelf file image) asks = absurd (differ (codes "build") (codes "unelf") refl asks.0)
 asked_build words end adds (Audit file harts cycles) asks = absurd (differ (codes "build") (codes "audit") refl asks.0)
 asked_build words end adds (Trace file harts cycles) asks = absurd (differ (codes "build") (codes "trace") refl asks.0)
+asked_build words end adds (Selftest statements) asks = absurd (differ (codes "build") (codes "selftest") refl asks.0)
 
 asked_exec : (words : List Text) (end : List Row) → Adds exec_parts [] false words end → (command : Command) → AsksFor (codes "exec") end command → ReadsBehind (codes "exec") words command
 asked_exec words end adds (Run file harts cycles show) asks = absurd (differ (codes "exec") (codes "run") refl asks.0)
@@ -154,6 +167,7 @@ asked_exec words end adds (Elf image file) asks = absurd (differ (codes "exec") 
 asked_exec words end adds (Unelf file image) asks = absurd (differ (codes "exec") (codes "unelf") refl asks.0)
 asked_exec words end adds (Audit file harts cycles) asks = absurd (differ (codes "exec") (codes "audit") refl asks.0)
 asked_exec words end adds (Trace file harts cycles) asks = absurd (differ (codes "exec") (codes "trace") refl asks.0)
+asked_exec words end adds (Selftest statements) asks = absurd (differ (codes "exec") (codes "selftest") refl asks.0)
 
 asked_list : (words : List Text) (end : List Row) → Adds list_parts [] false words end → (command : Command) → AsksFor (codes "list") end command → ReadsBehind (codes "list") words command
 asked_list words end adds (Run file harts cycles show) asks = absurd (differ (codes "list") (codes "run") refl asks.0)
@@ -164,6 +178,7 @@ asked_list words end adds (Elf image file) asks = absurd (differ (codes "list") 
 asked_list words end adds (Unelf file image) asks = absurd (differ (codes "list") (codes "unelf") refl asks.0)
 asked_list words end adds (Audit file harts cycles) asks = absurd (differ (codes "list") (codes "audit") refl asks.0)
 asked_list words end adds (Trace file harts cycles) asks = absurd (differ (codes "list") (codes "trace") refl asks.0)
+asked_list words end adds (Selftest statements) asks = absurd (differ (codes "list") (codes "selftest") refl asks.0)
 
 asked_elf : (words : List Text) (end : List Row) → Adds put_parts [] false words end → (command : Command) → AsksFor (codes "elf") end command → ReadsBehind (codes "elf") words command
 asked_elf words end adds (Run file harts cycles show) asks = absurd (differ (codes "elf") (codes "run") refl asks.0)
@@ -174,6 +189,7 @@ asked_elf words end adds (Elf image file) asks = (refl, reads_put words end adds
 asked_elf words end adds (Unelf file image) asks = absurd (differ (codes "elf") (codes "unelf") refl asks.0)
 asked_elf words end adds (Audit file harts cycles) asks = absurd (differ (codes "elf") (codes "audit") refl asks.0)
 asked_elf words end adds (Trace file harts cycles) asks = absurd (differ (codes "elf") (codes "trace") refl asks.0)
+asked_elf words end adds (Selftest statements) asks = absurd (differ (codes "elf") (codes "selftest") refl asks.0)
 
 asked_unelf : (words : List Text) (end : List Row) → Adds put_parts [] false words end → (command : Command) → AsksFor (codes "unelf") end command → ReadsBehind (codes "unelf") words command
 asked_unelf words end adds (Run file harts cycles show) asks = absurd (differ (codes "unelf") (codes "run") refl asks.0)
@@ -184,6 +200,7 @@ asked_unelf words end adds (Elf image file) asks = absurd (differ (codes "unelf"
 asked_unelf words end adds (Unelf file image) asks = (refl, reads_put words end adds file image asks.1 asks.2)
 asked_unelf words end adds (Audit file harts cycles) asks = absurd (differ (codes "unelf") (codes "audit") refl asks.0)
 asked_unelf words end adds (Trace file harts cycles) asks = absurd (differ (codes "unelf") (codes "trace") refl asks.0)
+asked_unelf words end adds (Selftest statements) asks = absurd (differ (codes "unelf") (codes "selftest") refl asks.0)
 
 asked_audit : (words : List Text) (end : List Row) → Adds exec_parts [] false words end → (command : Command) → AsksFor (codes "audit") end command → ReadsBehind (codes "audit") words command
 asked_audit words end adds (Run file harts cycles show) asks = absurd (differ (codes "audit") (codes "run") refl asks.0)
@@ -194,6 +211,7 @@ asked_audit words end adds (Elf image file) asks = absurd (differ (codes "audit"
 asked_audit words end adds (Unelf file image) asks = absurd (differ (codes "audit") (codes "unelf") refl asks.0)
 asked_audit words end adds (Audit file harts cycles) asks = (refl, reads_exec words end adds file harts cycles asks.1 asks.2)
 asked_audit words end adds (Trace file harts cycles) asks = absurd (differ (codes "audit") (codes "trace") refl asks.0)
+asked_audit words end adds (Selftest statements) asks = absurd (differ (codes "audit") (codes "selftest") refl asks.0)
 
 asked_trace : (words : List Text) (end : List Row) → Adds exec_parts [] false words end → (command : Command) → AsksFor (codes "trace") end command → ReadsBehind (codes "trace") words command
 asked_trace words end adds (Run file harts cycles show) asks = absurd (differ (codes "trace") (codes "run") refl asks.0)
@@ -204,6 +222,18 @@ asked_trace words end adds (Elf image file) asks = absurd (differ (codes "trace"
 asked_trace words end adds (Unelf file image) asks = absurd (differ (codes "trace") (codes "unelf") refl asks.0)
 asked_trace words end adds (Audit file harts cycles) asks = absurd (differ (codes "trace") (codes "audit") refl asks.0)
 asked_trace words end adds (Trace file harts cycles) asks = (refl, reads_exec words end adds file harts cycles asks.1 asks.2)
+asked_trace words end adds (Selftest statements) asks = absurd (differ (codes "trace") (codes "selftest") refl asks.0)
+
+asked_selftest : (words : List Text) (end : List Row) → Adds list_parts [] false words end → (command : Command) → AsksFor (codes "selftest") end command → ReadsBehind (codes "selftest") words command
+asked_selftest words end adds (Run file harts cycles show) asks = absurd (differ (codes "selftest") (codes "run") refl asks.0)
+asked_selftest words end adds (Build file image) asks = absurd (differ (codes "selftest") (codes "build") refl asks.0)
+asked_selftest words end adds (Exec image harts cycles) asks = absurd (differ (codes "selftest") (codes "exec") refl asks.0)
+asked_selftest words end adds (ListCode image) asks = absurd (differ (codes "selftest") (codes "list") refl asks.0)
+asked_selftest words end adds (Elf image file) asks = absurd (differ (codes "selftest") (codes "elf") refl asks.0)
+asked_selftest words end adds (Unelf file image) asks = absurd (differ (codes "selftest") (codes "unelf") refl asks.0)
+asked_selftest words end adds (Audit file harts cycles) asks = absurd (differ (codes "selftest") (codes "audit") refl asks.0)
+asked_selftest words end adds (Trace file harts cycles) asks = absurd (differ (codes "selftest") (codes "trace") refl asks.0)
+asked_selftest words end adds (Selftest statements) asks = (refl, reads_selftest words end adds statements asks.1)
 
 taken_named : (name : Text) (ps : List Part) (known : IsCommand ps) (words : List Text) → Behind name ps words → AreTexts words
     → ((end : List Row) → Adds ps [] false words end → (command : Command) → AsksFor name end command → ReadsBehind name words command)
@@ -229,6 +259,8 @@ taken_word word words texts (is_audit e) fine =
     subst (λ w. IsTaken (w ∷ words)) (sym e) (taken_named (codes "audit") exec_parts exec_command words (behind_audit words) texts (asked_audit words) (subst (λ w. fault_of written_app (w ∷ words) ≡ []) e fine))
 taken_word word words texts (is_trace e) fine =
     subst (λ w. IsTaken (w ∷ words)) (sym e) (taken_named (codes "trace") exec_parts exec_command words (behind_trace words) texts (asked_trace words) (subst (λ w. fault_of written_app (w ∷ words) ≡ []) e fine))
+taken_word word words texts (is_selftest e) fine =
+    subst (λ w. IsTaken (w ∷ words)) (sym e) (taken_named (codes "selftest") list_parts list_command words (behind_selftest words) texts (asked_selftest words) (subst (λ w. fault_of written_app (w ∷ words) ≡ []) e fine))
 taken_word word words texts (other none) fine = absurd (other_word word words none fine)
 
 pub taken : (words : List Text) → AreTexts words → fault_of written_app words ≡ [] → IsTaken words
@@ -430,6 +462,15 @@ asked_as word words (ListCode image) reads =
     (asked_named (codes "list") list_parts list_command words (ListCode image) us (Some image) None None None None (behind_list words) r.spelled each
     (list_in us each.harts each.cycles each.show each.image) (rw gf refl)
     (λ end e. (refl, first-is File us (Some image) end e each.file)))
+asked_as word words (Selftest statements) reads =
+    let r = reads.1 in
+    let us = r.given.arguments in
+    let each = each_of us _ (Some r.text) None None None None r.given.values_are refl refl refl refl refl in
+    let gf = given_by File us r.text [] each.file in
+    subst (λ w. IsAsked (w ∷ words) (Selftest statements)) (sym reads.0)
+    (asked_named (codes "selftest") list_parts list_command words (Selftest statements) us (Some r.text) None None None None (behind_selftest words) r.given.spelled each
+    (list_in us each.harts each.cycles each.show each.image) (rw gf refl)
+    (λ end e. (refl, record { statements_are = ap (option_and_then read_word) (first-is File us (Some r.text) end e each.file) ∙ r.statements_are; some = r.some; few = r.few })))
 
 pub asked : (words : List Text) (command : Command) → Reads words command → IsAsked words command
 asked [] command reads = absurd reads

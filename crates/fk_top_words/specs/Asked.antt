@@ -3,7 +3,8 @@ use Rattle.std.specs.Prelude.{◌≡◌, ℕ, ◌≤◌, List, Option, Some, Non
 use Rattle.fk_num.specs.Numeral.{read_word}
 use Rattle.clap.specs.Walk.{Row, first_of}
 use Rattle.fk_top_words.specs.Arguments.{Text}
-use Rattle.fk_top_words.specs.Command.{Command, Run, Build, Exec, ListCode, Elf, Unelf, Audit, Trace}
+use Rattle.fk_top_words.specs.Command.{Command, Run, Build, Exec, ListCode, Elf, Unelf}
+use Rattle.fk_top_words.specs.Command.{Audit, Trace, Selftest}
 
 -- The number that is found for an argument.
 abbrev pub number_of : Text → List Row → Option ℕ
@@ -15,6 +16,12 @@ pub record RunsBy (rows : List Row) (harts cycles : ℕ) : Type 0 where
   pub cycles_are : number_of (codes "cycles") rows ≡ Some cycles
   pub some_harts : 1 ≤ harts
   pub few_harts : harts ≤ 1024
+
+-- The number of statements is found, and in range.
+pub record StatementsBy (rows : List Row) (statements : ℕ) : Type 0 where
+  pub statements_are : number_of (codes "file") rows ≡ Some statements
+  pub some : 1 ≤ statements
+  pub few : statements ≤ 500
 
 abbrev pub AsksFor : Text → List Row → Command → Type 0
 AsksFor name rows (Run file harts cycles show) =
@@ -37,6 +44,7 @@ AsksFor name rows (Audit file harts cycles) = (name ≡ codes "audit")
     × (first_of (codes "file") rows ≡ Some file) × RunsBy rows harts cycles
 AsksFor name rows (Trace file harts cycles) = (name ≡ codes "trace")
     × (first_of (codes "file") rows ≡ Some file) × RunsBy rows harts cycles
+AsksFor name rows (Selftest statements) = (name ≡ codes "selftest") × StatementsBy rows statements
 
 -- The command that the command word and the values which `clap` found stand for.
 abbrev pub AsksOf : Option (Text × List Row) → Command → Type 0

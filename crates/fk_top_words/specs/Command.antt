@@ -8,7 +8,8 @@ use Rattle.fk_top_words.specs.declared.command.CommandWords.TheVariants as words
 -- The commands: compile a file and run it, and then show a variable, if one is named; compile a
 -- file into an image; run an image; list an image's code; make the ELF file of an image, and the
 -- image of an ELF file; compile a file, run it, and tell which PRAM the run needed; compile a file
--- and trace its run. A run is by this many harts, for at most this many cycles.
+-- and trace its run; compile and run a generated text of this many statements. A run is by this
+-- many harts, for at most this many cycles.
 pub data Command : Type 0 where
   Run : (file : Text) (harts cycles : ℕ) (show : Option Text) → Command
   Build : (file image : Text) → Command
@@ -18,6 +19,7 @@ pub data Command : Type 0 where
   Unelf : (file image : Text) → Command
   Audit : (file : Text) (harts cycles : ℕ) → Command
   Trace : (file : Text) (harts cycles : ℕ) → Command
+  Selftest : (statements : ℕ) → Command
 
 abbrev pub once_or_never : Option Text → List Text
 once_or_never None = []
@@ -48,6 +50,14 @@ only_file file = record { file = file ∷ []; harts = []; cycles = []; show = []
 abbrev pub two_files : Text → Text → Values
 two_files file image = record (only_file file) { image = image ∷ [] }
 
+-- A number from 1 to 500, where other commands have the name of a file.
+pub record ReadsStatements (words : List Text) (statements : ℕ) : Type 0 where
+  pub text : Text
+  pub given : Gives words (only_file text)
+  pub statements_are : read_word text ≡ Some statements
+  pub some : 1 ≤ statements
+  pub few : statements ≤ 500
+
 -- The command word of each command, and the words after it.
 abbrev pub ReadsBehind : Text → List Text → Command → Type 0
 ReadsBehind word words (Run file harts cycles show) = (word ≡ codes "run")
@@ -64,6 +74,8 @@ ReadsBehind word words (Audit file harts cycles) = (word ≡ codes "audit")
     × ReadsRun words file harts cycles None
 ReadsBehind word words (Trace file harts cycles) = (word ≡ codes "trace")
     × ReadsRun words file harts cycles None
+ReadsBehind word words (Selftest statements) =
+    (word ≡ codes "selftest") × ReadsStatements words statements
 
 -- The words of each command, those after the program's name.
 abbrev pub Reads : List Text → Command → Type 0
@@ -76,11 +88,12 @@ OneCommand = (words : List Text) (c d : Command) → Reads words c → Reads wor
 
 -- The command of words that were read.
 abbrev pub command_of : CommandWords → Command
-command_of (words.Run r show) = Run r.file.now r.harts r.cycles (option_map (λ s. s.now) show)
+command_of (words.Run file r show) = Run file.now r.harts r.cycles (option_map (λ s. s.now) show)
 command_of (words.Build file image) = Build file.now image.now
-command_of (words.Exec r) = Exec r.file.now r.harts r.cycles
+command_of (words.Exec file r) = Exec file.now r.harts r.cycles
 command_of (words.List image) = ListCode image.now
 command_of (words.Elf image file) = Elf image.now file.now
 command_of (words.Unelf file image) = Unelf file.now image.now
-command_of (words.Audit r) = Audit r.file.now r.harts r.cycles
-command_of (words.Trace r) = Trace r.file.now r.harts r.cycles
+command_of (words.Audit file r) = Audit file.now r.harts r.cycles
+command_of (words.Trace file r) = Trace file.now r.harts r.cycles
+command_of (words.Selftest statements) = Selftest statements

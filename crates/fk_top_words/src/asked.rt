@@ -5,7 +5,7 @@ ghost use Rattle.std.specs.Prelude.{option_map};
 ghost use Rattle.clap.specs.Matches.{found_of};
 ghost use Rattle.clap.specs.Simple.{subcommand_rows_of};
 ghost use Rattle.clap.specs.Walk.{first_of, rows_of};
-ghost use Rattle.fk_top_words.specs.Asked.{AsksFor, AsksOf, RunsBy, number_of};
+ghost use Rattle.fk_top_words.specs.Asked.{AsksFor, AsksOf, RunsBy, StatementsBy, number_of};
 ghost use Rattle.fk_top_words.specs.Command.{Command, command_of};
 
 use crate::command::{CommandWords, RunWords};
@@ -41,21 +41,21 @@ fn asked_for<'a>(given: &ArgMatches<'a>, name: &str) -> Option<CommandWords<'a>>
 {
     let file = text_of(given, "file")?;
     match name {
-        "run" => Some(CommandWords::Run(asked_run(given, file)?, text_of(given, "show"))),
+        "run" => Some(CommandWords::Run(file, asked_run(given)?, text_of(given, "show"))),
         "build" => Some(CommandWords::Build(file, text_of(given, "image")?)),
-        "exec" => Some(CommandWords::Exec(asked_run(given, file)?)),
+        "exec" => Some(CommandWords::Exec(file, asked_run(given)?)),
         "list" => Some(CommandWords::List(file)),
         "elf" => Some(CommandWords::Elf(file, text_of(given, "image")?)),
         "unelf" => Some(CommandWords::Unelf(file, text_of(given, "image")?)),
-        "audit" => Some(CommandWords::Audit(asked_run(given, file)?)),
-        "trace" => Some(CommandWords::Trace(asked_run(given, file)?)),
+        "audit" => Some(CommandWords::Audit(file, asked_run(given)?)),
+        "trace" => Some(CommandWords::Trace(file, asked_run(given)?)),
+        "selftest" => Some(CommandWords::Selftest(asked_statements(given)?)),
         _ => None,
     }
 }
 
-/// The run of a file with these values, if its numbers are in range.
-fn asked_run<'a>(given: &ArgMatches<'a>, file: &'a str) -> Option<RunWords<'a>>
-    ensures file { IfSome result (λ run. run.file.now ≡ file.now) }
+/// The run with these values, if its numbers are in range.
+fn asked_run(given: &ArgMatches<'_>) -> Option<RunWords>
     ensures some { IfSome result
         (λ run. RunsBy (rows_of (found_of given.now)) run.harts run.cycles) }
     ensures none { IsNone result → (p : ℕ) (n : ℕ) → RunsBy (rows_of (found_of given.now)) p n → ⊥ }
@@ -65,11 +65,19 @@ fn asked_run<'a>(given: &ArgMatches<'a>, file: &'a str) -> Option<RunWords<'a>>
     if harts < 1 || harts > 1024 {
         return None;
     }
-    Some(RunWords {
-        file,
-        harts,
-        cycles,
-    })
+    Some(RunWords { harts, cycles })
+}
+
+/// The number of statements with these values, if it is in range.
+fn asked_statements(given: &ArgMatches<'_>) -> Option<u32>
+    ensures some { IfSome result (StatementsBy (rows_of (found_of given.now))) }
+    ensures none { IsNone result → (n : ℕ) → StatementsBy (rows_of (found_of given.now)) n → ⊥ }
+{
+    let statements = number_of(given, "file")?;
+    if statements < 1 || statements > 500 {
+        return None;
+    }
+    Some(statements)
 }
 
 /// The number that is found for an argument.

@@ -2,11 +2,9 @@
 
 ghost use Rattle.std.specs.Prelude.{◌≤◌};
 
-/// A run: of a file, by this many harts, for at most this many cycles.
+/// A run by this many harts, for at most this many cycles.
 #[derive(Clone, Copy)]
-pub struct RunWords<'a> {
-    /// The name of the file.
-    pub file: &'a str,
+pub struct RunWords {
     /// The number of harts, 1 to 1,024.
     pub harts: u32,
     /// The most cycles that they run.
@@ -20,11 +18,11 @@ pub struct RunWords<'a> {
 pub enum CommandWords<'a> {
     /// `run FILE --harts P --cycles N [--show NAME]`: compiles a source and runs it, and then shows
     /// the variable of this name.
-    Run(RunWords<'a>, Option<&'a str>),
+    Run(&'a str, RunWords, Option<&'a str>),
     /// `build FILE -o IMAGE`: compiles a source and puts its image.
     Build(&'a str, &'a str),
     /// `exec IMAGE --harts P --cycles N`: runs an image.
-    Exec(RunWords<'a>),
+    Exec(&'a str, RunWords),
     /// `list IMAGE`: lists the code of an image.
     List(&'a str),
     /// `elf IMAGE -o FILE`: puts the ELF file of an image.
@@ -33,8 +31,11 @@ pub enum CommandWords<'a> {
     Unelf(&'a str, &'a str),
     /// `audit FILE --harts P --cycles N`: compiles a source, runs it, and tells which PRAM the run
     /// needed.
-    Audit(RunWords<'a>),
+    Audit(&'a str, RunWords),
     /// `trace FILE --harts P --cycles N`: compiles a source and runs it, and tells what the harts
     /// commit in each cycle.
-    Trace(RunWords<'a>),
+    Trace(&'a str, RunWords),
+    /// `selftest N`: compiles and runs a text with N statements, which is generated. N is from 1 to
+    /// 500.
+    Selftest(u32),
 }

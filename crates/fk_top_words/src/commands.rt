@@ -70,7 +70,7 @@ fn holding<'a>(
     command?.subcommand(inner?)
 }
 
-// A command that reads a file.
+// A command with one word, the name of a file that it reads or a number.
 fn reading<'a>(alloc: Global, name: &'a str) -> Result<Command<'a>, AllocError>
     ensures { IfOk result (IsLocal (leaf name.now list_parts)) }
 {
@@ -121,5 +121,6 @@ pub(crate) fn commands<'a>(alloc: Global) -> Result<Command<'a>, AllocError>
     let files = holding(images, putting(alloc, "elf"));
     let files = holding(files, putting(alloc, "unelf"));
     let runs = holding(files, running(alloc, "audit"));
-    holding(runs, running(alloc, "trace"))
+    let runs = holding(runs, running(alloc, "trace"));
+    holding(runs, reading(alloc, "selftest"))
 }

@@ -7,9 +7,10 @@ use Rattle.fk_core.specs.declared.op.CoreOp.{CoreOp}
 use Rattle.fk_compile_text.proofs.Parts.{kept as passed, passes_on}
 use Rattle.fk_lower_laws.specs.Certain.{HasFrames}
 use Rattle.fk_compile.specs.Lists.{IsGrouped}
-use Rattle.fk_gen_list.specs.Generable.{IsGenerable, most_words}
+use Rattle.fk_gen_list.specs.Generable.{IsGenerable, GivesWholeCode, most_words}
+use Rattle.fk_gen_list.specs.Whole.{GivesGroupLaw}
 use Rattle.fk_compile.specs.Faithful.{in_table}
-use Rattle.fk_compile.proofs.Made.{are_levels, gives_the_law, is_generable, few_words, is_compiled}
+use Rattle.fk_compile.proofs.Made.{IsPutTogether, are_levels, gives_still, is_generable, few_words, is_compiled, tells_events}
 use Rattle.fk_compile.proofs.Small.{few_operations}
 use Rattle.fk_compile.proofs.Theorem.{is_faithful}
 use Rattle.fk_compile.proofs.compiler.compile.Goals as goal
@@ -69,19 +70,55 @@ returns-clause-rows c =
       are = c.in_ok-text.ensures.laid.rows;
     }
 
+abbrev image_of : goal.After-programs_are_followed → Image
+image_of c = record { code = c.in_ok-code.code.words; globals = c.in_ok-text.text.layout.words; sites = c.in_ok-sites.sites; commits = c.in_ok-code.code.commits }
+
+-- the code and the table of sites, of which the image is put together
+put_together : (c : goal.After-programs_are_followed)
+    → IsPutTogether (program_of c.in_ok-text.text.tree) c.in_ok-text.text.facts c.in_ok-text.text.layout c.in_ok-text.ensures.laid c.in_ok-text.ensures.fits c.in_ok-list.list.ops.items c.in_ok-kept.kept.items
+    c.in_ok-saved.saved.items c.in_ok-list.list.main c.in_ok-code.code (image_of c)
+put_together c =
+    let layout = c.in_ok-text.text.layout in
+    let list = c.in_ok-list.list in
+    let code = c.in_ok-code.code in
+    let kept = c.in_ok-kept.kept in
+    let saved = c.in_ok-saved.saved in
+    let law = passed _ _ c.generate.result c.map_err-2.result code c.generate.ensures.group_law c.map_err-2.ensures.cases c.in_ok-code.was in
+    let whole = passed _ _ c.generate.result c.map_err-2.result code c.generate.ensures.whole c.map_err-2.ensures.cases c.in_ok-code.was in
+    record {
+      list = c.in_ok-list.ensures.list;
+      grouped =
+          subst (λ (firsts : List ℕ). IsGrouped list.ops.items list.main (length firsts)) (sym c.in_ok-text.ensures.laid.firsts) c.in_ok-list.ensures.grouped;
+      held = subst (λ (firsts : List ℕ). HasFrames list.ops.items kept.items list.main (length firsts)) c.deref.ensures.value c.in_ok-kept.ensures.held;
+      least = c.in_ok-kept.ensures.least;
+      levels =
+          are_levels _ list.ops.items c.deref-2.result.now c.levels.result c.map_err.result saved c.deref-2.ensures.value c.levels.ensures c.map_err.ensures.cases c.in_ok-saved.was;
+      law =
+          gives_still GivesGroupLaw list.ops.items c.deref-3.result.now kept.items c.deref-4.result.now saved.items c.deref-5.result.now list.main layout.firsts.items c.deref-6.result.now
+          (vec_len layout.words) c.len-globals.result code c.deref-3.ensures.value c.deref-4.ensures.value c.deref-5.ensures.value c.deref-6.ensures.value
+          c.len-globals.ensures law;
+      whole =
+          gives_still GivesWholeCode list.ops.items c.deref-3.result.now kept.items c.deref-4.result.now saved.items c.deref-5.result.now list.main layout.firsts.items c.deref-6.result.now
+          (vec_len layout.words) c.len-globals.result code c.deref-3.ensures.value c.deref-4.ensures.value c.deref-5.ensures.value c.deref-6.ensures.value
+          c.len-globals.ensures whole;
+      table = passed _ _ c.generate.result c.map_err-2.result code c.generate.ensures.table c.map_err-2.ensures.cases c.in_ok-code.was;
+      some = passed _ _ c.generate.result c.map_err-2.result code c.generate.ensures.some c.map_err-2.ensures.cases c.in_ok-code.was;
+      few = passed _ _ c.generate.result c.map_err-2.result code c.generate.ensures.few c.map_err-2.ensures.cases c.in_ok-code.was;
+      has_code = refl;
+      has_commits = refl;
+      has_globals = refl;
+      has_sites =
+          passed _ _ c.site_table.result c.map_err-3.result c.in_ok-sites.sites c.site_table.ensures c.map_err-3.ensures.cases c.in_ok-sites.was
+          ∙ ap (λ (all : List Site). map in_table all) c.deref-7.ensures.value;
+      firsts_are_words = subst (λ (ws : List ℕ). All (λ w. w < 2 ^ 32) ws) c.deref-8.ensures.value c.are_words.ensures;
+      globals_are_words = subst (λ (ws : List ℕ). All (λ w. w < 2 ^ 32) ws) c.deref-9.ensures.value c.are_words-2.ensures;
+    }
+
 pub returns-clause-faithful : goal.returns-clause-faithful
 returns-clause-faithful c =
     let text = c.in_ok-text.text in
     let tree = program_of text.tree in
-    let layout = text.layout in
     let list = c.in_ok-list.list in
-    let code = c.in_ok-code.code in
-    let sites = c.in_ok-sites.sites in
-    let image : Image = record { code = code.words; globals = layout.words; sites = sites; commits = code.commits } in
-    let law = passed _ _ c.generate.result c.map_err-2.result code c.generate.ensures.group_law c.map_err-2.ensures.cases c.in_ok-code.was in
-    let kept = c.in_ok-kept.kept in
-    let saved = c.in_ok-saved.saved in
-    let held = subst (λ (firsts : List ℕ). HasFrames list.ops.items kept.items list.main (length firsts)) c.deref.ensures.value c.in_ok-kept.ensures.held in
     record {
       short = c.in_ok-text.ensures.short;
       program = tree;
@@ -89,33 +126,22 @@ returns-clause-faithful c =
       checked = c.in_ok-text.ensures.checked;
       fits = c.in_ok-text.ensures.fits;
       faithful =
-          is_faithful tree text.facts list.ops.items list.main image c.machines_follow_trees.ensures c.programs_are_followed.ensures
-          (is_compiled tree text.facts layout c.in_ok-text.ensures.laid c.in_ok-text.ensures.fits list.ops.items kept.items saved.items list.main code image
-          (record {
-            list = c.in_ok-list.ensures.list;
-            grouped =
-                subst (λ (firsts : List ℕ). IsGrouped list.ops.items list.main (length firsts)) (sym c.in_ok-text.ensures.laid.firsts) c.in_ok-list.ensures.grouped;
-            held = held;
-            least = c.in_ok-kept.ensures.least;
-            levels =
-                are_levels _ list.ops.items c.deref-2.result.now c.levels.result c.map_err.result saved c.deref-2.ensures.value c.levels.ensures c.map_err.ensures.cases c.in_ok-saved.was;
-            law =
-                gives_the_law list.ops.items c.deref-3.result.now kept.items c.deref-4.result.now saved.items c.deref-5.result.now list.main layout.firsts.items c.deref-6.result.now
-                (vec_len layout.words) c.len-globals.result code c.deref-3.ensures.value c.deref-4.ensures.value c.deref-5.ensures.value c.deref-6.ensures.value
-                c.len-globals.ensures law;
-            table = passed _ _ c.generate.result c.map_err-2.result code c.generate.ensures.table c.map_err-2.ensures.cases c.in_ok-code.was;
-            some = passed _ _ c.generate.result c.map_err-2.result code c.generate.ensures.some c.map_err-2.ensures.cases c.in_ok-code.was;
-            few = passed _ _ c.generate.result c.map_err-2.result code c.generate.ensures.few c.map_err-2.ensures.cases c.in_ok-code.was;
-            has_code = refl;
-            has_commits = refl;
-            has_globals = refl;
-            has_sites =
-                passed _ _ c.site_table.result c.map_err-3.result sites c.site_table.ensures c.map_err-3.ensures.cases c.in_ok-sites.was
-                ∙ ap (λ (all : List Site). map in_table all) c.deref-7.ensures.value;
-            firsts_are_words = subst (λ (ws : List ℕ). All (λ w. w < 2 ^ 32) ws) c.deref-8.ensures.value c.are_words.ensures;
-            globals_are_words = subst (λ (ws : List ℕ). All (λ w. w < 2 ^ 32) ws) c.deref-9.ensures.value c.are_words-2.ensures;
-          })
-          c.steps_find_values.ensures);
+          is_faithful tree text.facts list.ops.items list.main (image_of c) c.machines_follow_trees.ensures c.programs_are_followed.ensures
+          (is_compiled tree text.facts text.layout c.in_ok-text.ensures.laid c.in_ok-text.ensures.fits list.ops.items c.in_ok-kept.kept.items c.in_ok-saved.saved.items list.main c.in_ok-code.code
+          (image_of c) (put_together c) c.steps_find_values.ensures);
+    }
+
+pub returns-clause-events : goal.returns-clause-events
+returns-clause-events c =
+    let text = c.in_ok-text.text in
+    let list = c.in_ok-list.list in
+    record {
+      program = program_of text.tree;
+      facts = text.facts;
+      checked = c.in_ok-text.ensures.checked;
+      told =
+          tells_events (program_of text.tree) text.facts text.layout c.in_ok-text.ensures.laid c.in_ok-text.ensures.fits list.ops.items c.in_ok-kept.kept.items c.in_ok-saved.saved.items list.main
+          c.in_ok-code.code (image_of c) (put_together c);
     }
 
 pub kept_words-requires : goal.kept_words-requires

@@ -26,6 +26,7 @@ returns-in-Ok g c =
             out = given.out;
             err = given.err;
           })
+          (λ not. given.fetch_faults ∙ c.find_ending.ensures.fetch_faults not)
           c.find_ending.ensures.left
           c.find_ending.ensures.input_faults
           (λ not. given.nothing_put (nothing_of _ (outcome_of c.in-Ok.ending) ends not) ∙ c.find_ending.ensures.put_faults);
@@ -43,6 +44,7 @@ returns-in-Err g c =
             out = λ _. refl;
             err = λ _. refl;
           })
+          c.find_ending.ensures.fetch_faults
           c.find_ending.ensures.left
           c.find_ending.ensures.input_faults
           (λ _. c.find_ending.ensures.put_faults);

@@ -1,1 +1,0 @@
-sh int x; void main(void) { x = 2 + 3; putint(x); }
