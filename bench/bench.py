@@ -11,9 +11,10 @@ the time of runs that stop before the first cycle, less that of an empty `main`.
 there (Debian: tcc), the time and memory of `fork95 build` over those of `tcc -c`, for a text of
 1 MiB of declarations and for one of sums, each with the same text in C. And where the program of
 the table of texts is built (`rt ci` builds it), the time in which all rules of the language are
-checked in a text of 1 MB with 60,000 names in nested scopes. And programs that a user would write
-(bench/programs), five of them with a group, with 1, 64 and 1,024 harts: cycles, cycles for each operation of each hart,
-and million operations a second, beside the seconds of the same program in C on one core.
+checked in a text of 1 MB with 60,000 names in nested scopes. And the cycles of empty statements of
+groups, with 2, 64 and 1,024 harts. And programs that a user would write (bench/programs), some of
+them with a group, with 1, 64 and 1,024 harts: cycles, cycles for each operation of each hart, and
+million operations a second, beside the seconds of the same program in C on one core.
 """
 import itertools
 import os
@@ -31,6 +32,19 @@ FORK95 = os.path.join(TOP, "fork95")
 PROGRAM = os.path.join(TOP, "crates", "fork95", "out", "fork95")
 RULES = os.path.join(TOP, "crates", "fk_check_cases", "out", "fk_check_cases")
 HARTS = (1, 64, 1024)
+# harts of a group, and its statements, each with the expressions that it has
+GROUPS = (2, 64, 1024)
+STATEMENTS = {
+    "farm ;": [],
+    "seq ;": [],
+    "if (i) ;": ["i"],
+    "if (i) ; else ;": ["i"],
+    "fork (2; @=i; $=i) ;": ["2", "i", "i"],
+    "fork (2; @=7; $=i) ;": ["2", "7", "i"],
+    "fork (1000; @=i; $=i) ;": ["1000", "i", "i"],
+    "fork (0; @=i; $=i) ;": ["0", "i", "i"],
+}
+COPIES = 32
 # how many hart-instructions a run of the image has
 LOOPED = 2**26
 HEADER_WORDS = 6
@@ -177,6 +191,26 @@ def print_ratios_to_c(folder, runs):
         print("%5d  %27.1f  %9.1f  %18.3f  %11.1f" % (harts, ours, theirs, ours / theirs, start))
 
 
+def cycles_of(folder, statement, harts):
+    """The cycles of a statement of a group, from runs with so many copies of it and with twice as many."""
+    cycles = []
+    for copies in (COPIES, 2 * COPIES):
+        path = write(folder, "statements.f95", "void main(void) { int i; start { i = $; %s } }\n" % (statement * copies))
+        ended = subprocess.run([PROGRAM, "run", path] + bounds(harts, 2**32 - 1), stdin=subprocess.DEVNULL, capture_output=True, text=True)
+        assert ended.returncode == 0, ended.stderr
+        cycles.append(int(ended.stderr.split()[2]))
+    return (cycles[1] - cycles[0]) / COPIES
+
+
+def print_statements(folder):
+    print("statement                   harts  cycles  over its expressions")
+    for statement, expressions in STATEMENTS.items():
+        for harts in GROUPS:
+            whole = cycles_of(folder, statement, harts)
+            parts = sum(cycles_of(folder, e + ";", harts) for e in expressions)
+            print("%-26s  %5d  %6.1f  %20.1f" % (statement, harts, whole, whole - parts))
+
+
 def print_programs(folder, runs):
     counting = build_c(folder, "counting", os.path.join(BENCH, "machine.c"), "-DCOUNT_OPERATIONS")
     print("program     harts      cycles  operations  cycles/operation  million operations/s  ms  ms of C")
@@ -257,6 +291,7 @@ def main():
         print_compiling(folder, runs)
         print_ratios_to_tcc(folder, runs)
         print_checking(folder, runs)
+        print_statements(folder)
         print_programs(folder, runs)
 
 

@@ -17,6 +17,7 @@ from dataclasses import dataclass, field
 from pathlib import Path
 
 sys.dont_write_bytecode = True
+import forks
 import frames
 import groups
 import splits
@@ -146,12 +147,13 @@ def is_image(there):
     return (there or b"").startswith(b"FK95")
 
 
-def has_kinds(kinds):
-    """Whether an image has sites of these kinds."""
+def has_sites(wanted):
+    """Whether an image has these sites: of each its kind alone, or also its line and column."""
 
     def has(there):
         code, of_globals, sites = struct.unpack_from("<3I", there, 8)
-        return [struct.unpack_from("<I", there, 24 + 4 * (code + of_globals) + 12 * row)[0] for row in range(sites)] == kinds
+        found = [struct.unpack_from("<3I", there, 24 + 4 * (code + of_globals) + 12 * row) for row in range(sites)]
+        return wanted in (found, [kind for kind, *_ in found])
 
     return has
 
@@ -311,7 +313,7 @@ ROWS = [
     # an input that can't be read counts before the text, and is nothing to a command that takes none
     Row(run("refused.f95", harts=2), 3, b"", r"read fault\n", given_from="."),
     Row(execute("halt.image"), 3, b"", r"read fault\n", given_from="."),
-    Row(build("empty.f95", "unread.image"), 0, b"", r"built 302 words\n", files={"unread.image": is_image}, given_from="."),
+    Row(build("empty.f95", "unread.image"), 0, b"", r"built 342 words\n", files={"unread.image": is_image}, given_from="."),
     # a machine of 1,024 harts takes 136 MiB, one of a single hart 8
     Row(run("sums.f95", harts=1024), 5, b"", "", memory=100 << 20),
     Row(run("sums.f95"), 0, b"5\n", FINISHED, memory=100 << 20),
@@ -452,14 +454,14 @@ ROWS += [
     Row(run("spellings.f95"), 0, b"122\n", FINISHED),
     Row(run("numbers.f95"), 0, b"".join(b"%d\n" % number for number in NUMBERS.values()), FINISHED),
     # all that no statements come to is `halt`
-    Row(build("empty.f95", "empty.image"), 0, b"", r"built \d+ words\n", files={"empty.image": has_kinds([34])}),
+    Row(build("empty.f95", "empty.image"), 0, b"", r"built \d+ words\n", files={"empty.image": has_sites([34])}),
     # by hand: const, const, const, binary, write, drop, const, read, outint, halt
     Row(
         build("sums.f95", "kinds.image"),
         0,
         b"",
         r"built \d+ words\n",
-        files={"kinds.image": has_kinds([1, 1, 1, 7, 14, 4, 1, 13, 19, 34])},
+        files={"kinds.image": has_sites([1, 1, 1, 7, 14, 4, 1, 13, 19, 34])},
     ),
     Row(execute("absent.image"), 3, b"", r"read fault\n"),
     Row(build("absent.f95", "none.image"), 3, b"", r"read fault\n", files={"none.image": None}),
@@ -522,19 +524,29 @@ for title, (harts, text, out, kind, place, processor) in FAULTS_OF_RUNS.items():
     ROWS.append(Row(run(f"fault {title}.f95", harts=harts), 6, out, report))
 
 # programs with groups, those that fault, and those that never end
-for title, (harts, given, text, show, out) in (groups.PROGRAMS | frames.PROGRAMS | splits.PROGRAMS).items():
-    FILES[f"group {title}.f95"] = text
-    words = run(f"group {title}.f95", harts=harts) + (["--show", show] if show else [])
-    ROWS.append(Row(words, 0, out, FINISHED, given=given))
-for title, (harts, text, out, kind, place, processor) in (groups.FAULTS | frames.FAULTS | splits.FAULTS).items():
-    FILES[f"group fault {title}.f95"] = text
-    report = rf"fault {kind} at {place} by processor {processor} after \d+ cycles\n"
-    ROWS.append(Row(run(f"group fault {title}.f95", harts=harts), 6, out, report))
-for title, (harts, text, show, out) in (groups.ENDLESS | splits.ENDLESS).items():
-    FILES[f"endless {title}.f95"] = text
-    words = run(f"endless {title}.f95", harts=harts, cycles=100000) + (["--show", show] if show else [])
-    ROWS.append(Row(words, 7, out, r"stopped after 100000 cycles\n"))
-for kind in ["framed", "split"]:
+PROGRAMS_OF = {"group": groups.PROGRAMS | frames.PROGRAMS | splits.PROGRAMS, "fork": forks.PROGRAMS}
+FAULTS_OF = {"group": groups.FAULTS | frames.FAULTS | splits.FAULTS, "fork": forks.FAULTS}
+ENDLESS_OF = {"group": groups.ENDLESS | splits.ENDLESS, "fork": forks.ENDLESS}
+
+
+def rows_of(kind):
+    """The rows of such programs, of those that fault, and of those that never end."""
+    for title, (harts, given, text, show, out) in PROGRAMS_OF[kind].items():
+        FILES[f"{kind} {title}.f95"] = text
+        words = run(f"{kind} {title}.f95", harts=harts, cycles=10000000) + (["--show", show] if show else [])
+        yield Row(words, 0, out, FINISHED, given=given)
+    for title, (harts, text, out, fault, place, processor) in FAULTS_OF[kind].items():
+        FILES[f"{kind} fault {title}.f95"] = text
+        report = rf"fault {fault} at {place} by processor {processor} after \d+ cycles\n"
+        yield Row(run(f"{kind} fault {title}.f95", harts=harts), 6, out, report)
+    for title, (harts, text, show, out) in ENDLESS_OF[kind].items():
+        FILES[f"{kind} endless {title}.f95"] = text
+        words = run(f"{kind} endless {title}.f95", harts=harts, cycles=100000) + (["--show", show] if show else [])
+        yield Row(words, 7, out, r"stopped after 100000 cycles\n")
+
+
+ROWS += [*rows_of("group"), *rows_of("fork")]
+for kind in ["framed", "split", "fork"]:
     for one in runs(TOP / "tools" / f"{kind}_runs.txt"):
         name = f"{kind} {one.number}.f95"
         FILES[name] = one.text
@@ -548,7 +560,7 @@ ROWS += [
         0,
         b"",
         r"built \d+ words\n",
-        files={"kinds.image": has_kinds([2, 23, 1, 2, 14, 4, 29, 30, 34])},
+        files={"kinds.image": has_sites([2, 23, 1, 2, 14, 4, 29, 30, 34])},
     ),
 ]
 
@@ -560,11 +572,11 @@ def refused(text, report):
     return Row(build(name, "none.image"), 1, b"", report)
 
 
-def built(text, kinds):
-    """A row of a text of its own that is built, with sites of these kinds."""
+def built(text, sites):
+    """A row of a text of its own that is built, with these sites."""
     name = f"text {len(FILES)}.f95"
     FILES[name] = text
-    return Row(build(name, "kinds.image"), 0, b"", r"built \d+ words\n", files={"kinds.image": has_kinds(kinds)})
+    return Row(build(name, "kinds.image"), 0, b"", r"built \d+ words\n", files={"kinds.image": has_sites(sites)})
 
 
 def broken(marked):
@@ -621,8 +633,35 @@ BUILT = {
 }
 # mistakes of several kinds in one text
 FILES["all.f95"] = b"int ib[2]; void main(void) { farm ; y = ? }"
+ROWS += [refused(text, rf"refused {report}\n") for text, report in forks.REFUSED.values()]
+# the text around a piece in the table of texts
+LAID = "struct In { int x; };\nstruct S { int a; struct In in; int v[3]; struct S *next; };\nsh struct S st; sh struct S so[2]; sh int x0, ar[4]; sh unsigned x1; int f0;\n"
+AROUND = {
+    "item": LAID + "%s\nvoid main(void) { }\n",
+    "asynchronous": LAID + "int af(int a) { return a; }\nvoid main(void) {\n%s\n}\n",
+    "synchronous": LAID + "sync int sf(sh int a, int b) { return a; }\nvoid main(void) { start {\n%s\n} }\n",
+}
+
+
+def site(written):
+    """The kind and the place of a site that is written as 27@6:1, or 4 where it has no place."""
+    kind, _, place = written.partition("@")
+    return (int(kind), *map(int, (place or "0:0").split(":")))
+
+
+def built_of_table():
+    """The texts of the table of texts whose sites it tells. The image has these sites, with their places."""
+    table = TOP / "crates/fk_check_cases"
+    asked = [line.split("\t")[1:] for line in (table / "stdin").read_text(encoding="utf-8").split("\n") if re.match("sites\t(?!whole)", line)]
+    told = [line for line in (table / "stdout").read_text(encoding="utf-8").split("\n") if line.startswith("sites ")]
+    for (place, piece), answer in zip(asked, told):
+        sites = answer.removeprefix("sites ").partition(" frames ")[0]
+        yield built((AROUND[place] % piece).encode(), [*map(site, sites.split(" "))])
+
+
 ROWS += [
     *[built(text, kinds) for text, kinds in BUILT.items()],
+    *built_of_table(),
     Row(run("undeclared.f95") + ["--show", "y"], 1, b"", r"refused 8 Rule 1 at 1:26\n", given=b"x"),
     Row(run("all.f95"), 1, b"", r"refused 5 Unexpected at 1:41\n"),
 ]
@@ -752,6 +791,28 @@ ROWS += [
 ]
 
 
+# texts whose images run as the texts do, cycle by cycle: (the name, the harts, the input)
+OWN_IMAGES = [
+    ("empty.f95", 1, b""),
+    ("group fault one that went by itself.f95", 8, b""),
+    ("group prefix sums of an input.f95", 64, b" ".join(b"%d" % number for number in splits.NUMBERS)),
+    ("fork every form of statement.f95", 8, b""),
+    ("fork all 1,024 alone.f95", 1024, b""),
+    ("fork fault a fault in a part while another runs.f95", 6, b""),
+]
+
+
+def fault_of_image(program, folder, name, harts, given):
+    """What of the run of a text's image isn't as in the run of the text, if anything."""
+    subprocess.run([program, *build(name, "own.image")], cwd=folder, capture_output=True, timeout=SECONDS)
+    ended = [
+        subprocess.run([program, *words], cwd=folder, input=given, capture_output=True, timeout=SECONDS)
+        for words in (run(name, harts=harts), execute("own.image", harts=harts))
+    ]
+    of_text, of_image = [(one.returncode, one.stdout, one.stderr) for one in ended]
+    return None if of_text == of_image else f"its image gives {of_image!r:.200}, not {of_text!r:.200}"
+
+
 def added(number):
     """What the statement of this number in a self-test adds to its word of `c`, for 64 processors."""
     ranks, parts = range(64), number % 5 + 1
@@ -840,7 +901,12 @@ def main():
             failed += bool(found)
             if found:
                 print("fork95", *row.words, ":", "; ".join(found))
-    print(f"{len(ROWS) - failed} passed, {failed} failed")
+        for name, harts, given in OWN_IMAGES:
+            fault = fault_of_image(program, folder, name, harts, given)
+            failed += bool(fault)
+            if fault:
+                print(name, ":", fault)
+    print(f"{len(ROWS) + len(OWN_IMAGES) - failed} passed, {failed} failed")
     return 1 if failed else 0
 
 

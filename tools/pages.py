@@ -22,6 +22,23 @@ def lines(*items):
     return "".join(f"{item}\n" for item in items)
 
 
+def levels(numbers):
+    """How deep quicksort goes whose pivot is the last number."""
+    if not numbers:
+        return 0
+    pivot = numbers[-1]
+    return 1 + max(levels([it for it in numbers if it < pivot]), levels([it for it in numbers if it > pivot]))
+
+
+def rises(numbers):
+    """How often a row of squares' last two digits rises, where each is added up with its two neighbours, in a ring."""
+    last = len(numbers) - 1
+    digits = [number * number % 100 for number in numbers]
+    smooth = [digits[at - 1] + digits[at] + digits[at + 1 if at < last else 0] for at in range(len(digits))]
+    return sum(smooth[at] > smooth[at - 1] for at in range(len(smooth)))
+
+
+UNSORTED = [42, 7, 91, 15, 7, 63, 28, 80, 3, 56, 34, 77, 19, 42, 88, 50]
 FIELD = "........\n"
 OUTPUTS = {
     "bad_pointer": lines(10, 20, 30, 40),
@@ -43,7 +60,10 @@ OUTPUTS = {
     "matrix": lines(*[2 * (row + column) for row in range(8) for column in range(8)]),
     "maximum": lines(35),
     "odd_even_sort": lines(4, 5, 8, 9, 15, 26, 31, 35),
+    "parts": lines("012.012.", "000.111.", "222.222.", "000.111.", "01234567"),
+    "pipeline": lines("a...", "ba..", "cba.", "dcba", "edcb", "fedc", ".fed", "..fe", "...f", *[rises(range(first, first + 8)) for first in range(1, 48, 8)]),
     "prefix_sums": lines(*[number * (number + 1) // 2 for number in range(1, 17)]),
+    "quicksort": lines(*sorted(UNSORTED), f"levels: {levels(UNSORTED)}"),
     "queue": lines(111, 118, 261, 0, 1, 7, 2, 5, 8, 16, "tasks of each processor:", 1, 1, 1, 7),
     "race": lines(100, 6400),
     "recursion": lines(0, 1, 1, 2, 3, 5, 8, 13, 21, 34, 55, 89, 144, 233, 377, 610),

@@ -4,7 +4,13 @@ from dataclasses import dataclass
 
 HEADING = re.compile(rb"^=== (\d+): harts (\d+), show (\w+), input (.*)\n", re.MULTILINE)
 OUTPUT, REPORT = b"--- output\n", b"--- report\n"
-ESCAPED = {b"0": b"\0", b"\\": b"\\"}
+ESCAPED = re.compile(rb"\\(?:(0)|(\\)|x([0-9a-f]{2}))")
+
+
+def byte_of(escaped):
+    """The byte that is written in this way."""
+    nothing, backslash, digits = escaped.groups()
+    return b"\0" if nothing else backslash or bytes.fromhex(digits.decode())
 
 
 @dataclass
@@ -26,5 +32,5 @@ def runs(path):
     for number, harts, shown, given, body in zip(*[iter(parts)] * 5):
         text, rest = body.split(OUTPUT)
         out, report = rest.split(REPORT)
-        out = re.sub(rb"\\(.)", lambda found: ESCAPED[found[1]], out)
+        out = ESCAPED.sub(byte_of, out)
         yield Run(int(number), int(harts), shown.decode(), given, text, out, report.strip().decode())

@@ -16,6 +16,11 @@ def share(free, parts):
     return (free - KEPT * parts) // parts
 
 
+def room(parts):
+    """The fewest free words that so many parts need."""
+    return parts * (LEAST_SHARE + KEPT)
+
+
 def splits(free, parts):
     """How many splits into so many parts fit into one another, from the free words of a group."""
     count = 0
@@ -66,6 +71,43 @@ def of_parts(harts, part):
 
 
 EIGHTHS = of_parts(13, lambda rank: rank & 7)
+
+# each statement and sign that splits: the token at whose place it has no room, and how many parts it makes
+SPLITTING = {
+    b"if ($ < 0) ;": (b"if", 1),
+    b"if ($ < 0) ; else ;": (b"if", 2),
+    b"while ($ < 0) ;": (b"while", 1),
+    b"do ; while ($ < 0);": (b"do", 1),
+    b"for (; $ < 0; ) ;": (b"for", 1),
+    b"$ < 0 && 1;": (b"&&", 1),
+    b"$ < 0 || 1;": (b"||", 1),
+    b"$ < 0 ? 1 : 2;": (b"?", 2),
+    b"fork (3; @=$) ;": (b"fork", 3),
+}
+# each statement whose part has a frame of nine words, and the token at whose place these have no room
+WITH_FRAMES = {
+    b"if ($ > 1) { sh int u[9]; }": (b"if", 1),
+    b"if ($ > 1) { sh int u[9]; } else ;": (b"if", 2),
+    b"if ($ < 2) ; else { sh int u[9]; }": (b"if", 2),
+    b"fork (1; @=$<2) { sh int u[9]; }": (b"fork", 1),
+}
+# the same of statements whose part all members enter
+WITH_FRAMES_OF_ALL = {
+    b"while ($ < 0) { sh int u[9]; }": (b"while", 1),
+    b"do { sh int u[9]; } while ($ < 0);": (b"do", 1),
+    b"for (; $ < 0; ) { sh int u[9]; }": (b"for", 1),
+}
+
+
+def tight(free, statement):
+    """A group with so many free words that does this statement."""
+    return b"void main(void) {\n  start { sh int t[%d]; t[0] = 7;\n    %s\n    seq putint(t[0]); }\n}" % (NONE.free - free, statement)
+
+
+def has_no_room(free, statement, token, processor):
+    text = tight(free, statement)
+    return (5, text, b"", "GroupSpace", column(text, token, 3), processor)
+
 
 PROGRAMS = {
     # ---- if
@@ -121,6 +163,8 @@ PROGRAMS = {
     "blocks in both parts": (5, b"", body(b"pr int *p; if ($ < 2) { p = shalloc(8); p[1] = $ + 5; r[0] = p[1]; } else { p = shalloc(8); p[1] = $ * 3; r[1] = p[1]; } p = shalloc(8); p[0] = $; r[2] = p[0];"), "r", values(6, 12, 4)),
     "recursion in parts": (5, b"", b"sh int r[16]; sync int steps(pr int n) { pr int s = 0; mpadd(&r[5], 1); if (n > 0) s = 1 + steps(n - 1); return s; } void main(void) { start r[$] = steps($ * 2); }",
         "r", values(0, 2, 4, 6, 8, sum(2 * rank + 1 for rank in range(5)))),
+    **{f"just enough words for {statement.decode()}": (5, b"", tight(room(count), statement), "", lines([7])) for statement, (_, count) in SPLITTING.items()},
+    **{f"just enough words for {statement.decode()}": (5, b"", tight(room(count) + count, statement), "", lines([7])) for statement, (_, count) in (WITH_FRAMES | WITH_FRAMES_OF_ALL).items()},
     "splits of calls in splits": (7, b"", b"sh int r[16]; sync int f(pr int n) { pr int s; if (n % 2) s = n ? groupsize() : 9; else s = 10 * groupsize(); return s; } void main(void) { start { if ($ > 2) r[$] = f($); else r[$] = 100 + f($ + 1); } }",
         "r", values(102, 110, 102, 2, 20, 2, 20)),
 }
@@ -134,7 +178,6 @@ def nested(free, other):
 
 
 BOTH = b"sync void f(pr int d) {\n  if ($ < 1) { seq putint(d); f(d + 1); } else ; }\nvoid main(void) { start f(0); }"
-EXACT, LESS = LEAST_SHARE + KEPT, 2 * (LEAST_SHARE + KEPT)
 DEREFERENCE = b"sh int x;\nvoid main(void) {\n  start {\n    pr int *p = &x;\n    if ($ == 5) p = 0;\n    putint($);\n    x = *p;\n  }\n}"
 WAITING = b"sh int x;\nvoid main(void) {\n  start {\n    pr int *p = 0;\n    if ($ % 2)\n      x = *p;\n  }\n}"
 RUNNING = b"sh int x;\nvoid main(void) {\n  start {\n    pr int *p = 0;\n    if ($ < 2) while (1) x = 1;\n    else x = *p;\n  }\n}"
@@ -142,10 +185,14 @@ LATER = b"sh int x, n;\nvoid main(void) {\n  start {\n    pr int *p = 0;\n    if
 FAULTS = {
     "splits into two parts until the space is full": (1, BOTH, lines(range(splits(NONE.free, 2))), "GroupSpace", "2:3", 0),
     "splits into one part until the space is full": (5, nested(100, b""), lines(range(splits(100, 1))), "GroupSpace", "2:3", 2),
-    "just enough words for one part": (5, nested(EXACT, b""), lines([0]), "GroupSpace", "2:3", 2),
-    "a word less for one part": (5, nested(EXACT - 1, b""), b"", "GroupSpace", "2:3", 0),
-    "just enough words for two parts": (5, nested(LESS, b"else ; "), lines([0]), "GroupSpace", "2:3", 2),
-    "a word less for two parts": (5, nested(LESS - 1, b"else ; "), b"", "GroupSpace", "2:3", 0),
+    "just enough words for one part": (5, nested(room(1), b""), lines([0]), "GroupSpace", "2:3", 2),
+    "a word less for one part": (5, nested(room(1) - 1, b""), b"", "GroupSpace", "2:3", 0),
+    "just enough words for two parts": (5, nested(room(2), b"else ; "), lines([0]), "GroupSpace", "2:3", 2),
+    "a word less for two parts": (5, nested(room(2) - 1, b"else ; "), b"", "GroupSpace", "2:3", 0),
+    **{f"a word less for {statement.decode()}": has_no_room(room(count) - 1, statement, token, 0) for statement, (token, count) in SPLITTING.items()},
+    # the share has a word less than header and frame
+    **{f"a word less for {statement.decode()}": has_no_room(room(count), statement, token, 2) for statement, (token, count) in WITH_FRAMES.items()},
+    **{f"a word less for {statement.decode()}": has_no_room(room(count), statement, token, 0) for statement, (token, count) in WITH_FRAMES_OF_ALL.items()},
     "one that went by itself": (8, DEREFERENCE, lines(range(8)), "BadAddress", column(DEREFERENCE, b"*p", 7), 5),
     "a fault in a part while the others wait": (6, WAITING, b"", "BadAddress", column(WAITING, b"*p", 6), 1),
     "a fault in a part while another runs": (6, RUNNING, b"", "BadAddress", column(RUNNING, b"*p", 6), 2),

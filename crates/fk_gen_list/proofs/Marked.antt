@@ -1,12 +1,9 @@
 -- The commits of each block tell the event of its operation, and code that only leads on commits nothing.
-use Rattle.std.proofs.Common.{◌≡◌, ℕ, zero, suc, List, [], ◌∷◌, ◌++◌, map, Bool, true, false, Option, Some, None, All, refl}
+use Rattle.std.proofs.Common.{◌≡◌, ℕ, zero, suc, List, [], ◌∷◌, ◌++◌, map, Bool, true, false, Some, None, All, refl}
 use Rattle.std.specs.Prelude.{◌==◌, nat_le}
 use Rattle.std.proofs.lemmas.List.Elements.{All-nil, All-cons, All-append, All-from_recursion}
 use Rattle.fk_meaning_operation.specs.declared.operation.Operation.{Operation}
 use Rattle.fk_meaning_operation.specs.declared.operation.Operation.TheVariants as o
-use Rattle.fk_meaning_operation.specs.declared.operation.Multiprefix.{Multiprefix}
-use Rattle.fk_image.specs.declared.event.Event.{Event}
-use Rattle.fk_image.specs.declared.event.Event.TheVariants.{Split}
 use Rattle.fk_isa.specs.declared.instruction.Instruction.{Instruction}
 use Rattle.fk_asm.specs.Block.{MarkedLine}
 use Rattle.fk_core.specs.declared.op.CoreOp.{CoreOp}

@@ -22,13 +22,17 @@ use Rattle.fk_gen.specs.declared.placed.Placed.{Placed}
 use Rattle.fk_gen.specs.Events.{event_of, IsMarked, AreMarked}
 use Rattle.fk_gen.specs.Lines.{number_in}
 use Rattle.fk_gen_access.specs.Heap.{heap_label, heap_lines}
+use Rattle.fk_gen_flow.specs.Blocks.{flow_block}
+use Rattle.fk_gen_flow.specs.Flow.{jump_block}
 use Rattle.fk_gen_flow.specs.Opening.{opening_lines}
 use Rattle.fk_gen_group.specs.Blocks.{start_label, start_lines}
 use Rattle.fk_gen_group.specs.Splits.{parts_label, parts_lines, one_part_lines, two_parts_lines, fork_lines}
 use Rattle.fk_gen_group.proofs.Marked.{blocks_are_marked}
 use Rattle.fk_gen_list.specs.Events.{TellsEvent, TellEvents}
 use Rattle.fk_gen_list.specs.Generable.{places_in}
-use Rattle.fk_gen_list.specs.Kinds.{kind_of, block_of}
+use Rattle.fk_gen_list.specs.declared.kind.Kind.{Kind}
+use Rattle.fk_gen_list.specs.declared.kind.Kind.TheVariants.{Flow, Access, Group, Expression}
+use Rattle.fk_gen_list.specs.Kinds.{kind_of, block_in, block_of}
 use Rattle.fk_gen_list.specs.Layout.{placed, placed_from, all_placed, place, copying_lines, clearing_lines, calls_front, start_front, heap_front, part_front, fork_front, front, all_lines, IsLaid}
 use Rattle.fk_gen_list.proofs.InImage.{IsAssembled, bound_in, word_or}
 use Rattle.fk_gen_list.proofs.Laid.{place-suc}
@@ -56,6 +60,10 @@ both_told Q k [] ys first second = let e : k + 0 ≡ k = omega arith in subst (�
 both_told Q k (m ∷ xs) ys first second =
     let e : k + suc (length xs) ≡ k + 1 + length xs = omega arith in
     (first.0, both_told Q (k + 1) xs ys first.1 (subst (λ j. AreTold Q j ys) e second))
+
+-- lines behind those that come first
+behind_told : (Q : ℕ × ℕ → Type 0) (xs ys : List MarkedLine) → AreTold Q 0 xs → AreTold Q (length xs) ys → AreTold Q 0 (xs ++ ys)
+behind_told Q xs ys first second = let e : length xs ≡ 0 + length xs = omega arith in both_told Q 0 xs ys first (subst (λ j. AreTold Q j ys) e second)
 
 -- lines without commits
 quiet_told : (Q : ℕ × ℕ → Type 0) (k : ℕ) (ms : List MarkedLine) → All IsQuiet ms → AreTold Q k ms
@@ -110,6 +118,23 @@ placed_back core globals kept saved k (suc i) j (op ∷ ops) p same at =
     let rest = placed_back core globals kept saved (suc k) i j ops p (omega arith) at in
     record { op = rest.op; at = rest.at; is = rest.is }
 
+-- the block of a jump
+jump_kind : (op : CoreOp) → is_jump op ≡ true → kind_of op ≡ Flow
+jump_kind op j = rw j refl
+
+jump_lines : (clears back : ℕ) (op : CoreOp) → is_jump op ≡ true → flow_block clears back op ≡ jump_block op.target
+jump_lines clears back op j = rw j refl
+
+jump_is : (p : Placed) → is_jump p.op ≡ true → block_of p ≡ jump_block p.op.target
+jump_is p j = ap (λ kind. block_in kind p) (jump_kind p.op j) ∙ jump_lines p.clears p.back p.op j
+
+-- what is no operation has no block
+no_block : (p : Placed) → is_jump p.op ≡ false → operation_of p.op.kind p.op.number ≡ None → (kind : Kind) → block_in kind p ≡ []
+no_block p no_jump read Flow = rw (no_jump, read) refl
+no_block p no_jump read Access = rw read refl
+no_block p no_jump read Group = rw read refl
+no_block p no_jump read Expression = rw read refl
+
 -- ---- the whole code
 
 module _ (core : List CoreOp) (kept : List Set) (saved : List Levels) (main : ℕ) (firsts : List ℕ) (globals : ℕ) where
@@ -155,8 +180,10 @@ module _ (core : List CoreOp) (kept : List Set) (saved : List Levels) (main : �
 
     block_told : (i : ℕ) (op : CoreOp) → slice_get core i ≡ Some op → (jump : Bool) (operation : Option Operation) → is_jump op ≡ jump → operation_of op.kind op.number ≡ operation
         → AreTold Q (block i) (block_of (placed core globals kept saved i op))
-    block_told i op at true operation j read = rw j (tt, tt)
-    block_told i op at false None j read = rw (j, read) tt
+    block_told i op at true operation j read =
+        subst (λ lines. AreTold Q (block i) lines) (sym (jump_is (placed core globals kept saved i op) j)) (tt, tt)
+    block_told i op at false None j read =
+        subst (λ lines. AreTold Q (block i) lines) (sym (no_block (placed core globals kept saved i op) j read (kind_of op))) tt
     block_told i op at false (Some operation) j read =
         operation_told i op operation at j read
         (operation_marked (placed core globals kept saved i op) operation j read (kind_of op))
@@ -206,17 +233,17 @@ module _ (core : List CoreOp) (kept : List Set) (saved : List Levels) (main : �
 
     calls_told : AreTold Q 0 (calls_front opening)
     calls_told =
-        both_told Q 0 (opening ++ copying_lines) clearing_lines
-        (both_told Q 0 opening copying_lines (quiet_told Q 0 opening (opening_quiet (length firsts) firsts main)) (quiet_told Q (0 + length opening) copying_lines copying_quiet))
-        (quiet_told Q (0 + length (opening ++ copying_lines)) clearing_lines clearing_quiet)
+        behind_told Q (opening ++ copying_lines) clearing_lines
+        (behind_told Q opening copying_lines (quiet_told Q 0 opening (opening_quiet (length firsts) firsts main)) (quiet_told Q (length opening) copying_lines copying_quiet))
+        (quiet_told Q (length (opening ++ copying_lines)) clearing_lines clearing_quiet)
 
     front_told : AreTold Q 0 (front opening globals)
     front_told =
-        both_told Q 0 (fork_front opening globals) fork_lines
-        (both_told Q 0 (part_front opening globals) two_parts_lines
-        (both_told Q 0 (heap_front opening globals) one_part_lines
-        (both_told Q 0 (start_front opening globals) (heap_lines globals)
-        (both_told Q 0 (calls_front opening) (start_lines globals) calls_told begins_told)
+        behind_told Q (fork_front opening globals) fork_lines
+        (behind_told Q (part_front opening globals) two_parts_lines
+        (behind_told Q (heap_front opening globals) one_part_lines
+        (behind_told Q (start_front opening globals) (heap_lines globals)
+        (behind_told Q (calls_front opening) (start_lines globals) calls_told begins_told)
         hires_told)
         (splits_told split.IfAlone (length (heap_front opening globals)) laid.divides blocks_are_marked.one_part))
         (splits_told split.IfElse (length (part_front opening globals)) laid.halves blocks_are_marked.two_parts))
@@ -225,7 +252,7 @@ module _ (core : List CoreOp) (kept : List Set) (saved : List Levels) (main : �
     whole_told : All Q (entries_from 0 whole)
     whole_told =
         entries_told Q 0 whole
-        (both_told Q 0 (front opening globals) (flat_map block_of ops) front_told
+        (behind_told Q (front opening globals) (flat_map block_of ops) front_told
         (blocks_told Q block_of (length (front opening globals)) ops each_told))
 
     pub all_told : length image.globals.items ≡ globals → TellEvents core image bound there

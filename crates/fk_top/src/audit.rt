@@ -46,7 +46,7 @@ pub fn audit_ending<'a>(
     run: RunWords,
 ) -> Result<Ending<'a>, AllocError>
     requires limits { IsWithinLimits image.now }
-    ensures { IfOk result (λ e. EndsAudit image.now text.now run.entry.harts run.entry.cycles
+    ensures { IfOk result (λ e. EndsAudit image.now text.now run.harts run.cycles
         (outcome_of e)) }
 {
     let limit = most_numbers(image.globals.len());

@@ -24,7 +24,7 @@ pub fn run_bytes<'a>(
     run: RunWords,
 ) -> Result<Ending<'a>, AllocError>
     ensures { IfOk result (λ e. RefusesImage bytes.now (outcome_of e)
-        ⊎ RunsImage bytes.now text.now run.entry.harts run.entry.cycles (outcome_of e)) }
+        ⊎ RunsImage bytes.now text.now run.harts run.cycles (outcome_of e)) }
 {
     match read_image(alloc, bytes) {
         Ok(image) => run_ending(alloc, image, text, run, RunText::Output(None)),

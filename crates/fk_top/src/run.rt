@@ -35,7 +35,7 @@ pub fn run_ending<'a>(
     written: RunText<'a>,
 ) -> Result<Ending<'a>, AllocError>
     requires limits { IsWithinLimits image }
-    ensures { IfOk result (λ e. EndsOn image text.now run.entry.harts run.entry.cycles
+    ensures { IfOk result (λ e. EndsOn image text.now run.harts run.cycles
         (writing_of written.entry) (outcome_of e)) }
 {
     let limit = most_numbers(image.globals.len());

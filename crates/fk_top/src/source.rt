@@ -34,7 +34,7 @@ pub fn run_source<'a>(
 ) -> Result<Ending<'a>, AllocError>
     ensures { IfOk result (λ e. RefusesSource source.now (outcome_of e)
         ⊎ LacksGlobal source.now (option_map (λ s. s.now) show.entry) (outcome_of e)
-        ⊎ RunsSource source.now text.now run.entry.harts run.entry.cycles
+        ⊎ RunsSource source.now text.now run.harts run.cycles
         (option_map (λ s. s.now) show.entry) (outcome_of e)) }
 {
     match compile(alloc, source) {
@@ -70,7 +70,7 @@ fn run_and_show<'a>(
     ensures { (source : List ℕ) → IsFaithful source compiled.entry.image
         → HasRows source (map row_of compiled.entry.rows.items)
         → IfOk result (λ e. LacksGlobal source (option_map (λ s. s.now) show.entry) (outcome_of e)
-        ⊎ RunsSource source text.now run.entry.harts run.entry.cycles
+        ⊎ RunsSource source text.now run.harts run.cycles
         (option_map (λ s. s.now) show.entry) (outcome_of e)) }
 {
     let Some(name) = show else {
@@ -100,7 +100,7 @@ pub fn audit_source<'a>(
     run: RunWords,
 ) -> Result<Ending<'a>, AllocError>
     ensures { IfOk result (λ e. RefusesSource source.now (outcome_of e)
-        ⊎ AuditsSource source.now text.now run.entry.harts run.entry.cycles (outcome_of e)) }
+        ⊎ AuditsSource source.now text.now run.harts run.cycles (outcome_of e)) }
 {
     match compile(alloc, source) {
         Ok(compiled) => audit_ending(alloc, &compiled.image, text, run),
@@ -116,7 +116,7 @@ pub fn trace_source<'a>(
     run: RunWords,
 ) -> Result<Ending<'a>, AllocError>
     ensures { IfOk result (λ e. RefusesSource source.now (outcome_of e)
-        ⊎ TracesSource source.now text.now run.entry.harts run.entry.cycles (outcome_of e)) }
+        ⊎ TracesSource source.now text.now run.harts run.cycles (outcome_of e)) }
 {
     match compile(alloc, source) {
         Ok(compiled) => run_ending(alloc, compiled.image, text, run, RunText::Trace),
