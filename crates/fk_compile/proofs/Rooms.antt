@@ -1,6 +1,6 @@
 -- The levels that are found for a list have room in its frames, and go with its operations.
 use Rattle.std.proofs.Common.{◌≡◌, ◌⊎◌, ℕ, zero, suc, ◌+◌, ◌-◌, ◌*◌, ◌<◌, ◌≤◌, Bool, true, false, List, [], ◌∷◌, length, map, slice_get, Option, Some, None, inl, inr, refl, sym, ap, ◌∙◌, subst, arith}
-use Rattle.std.specs.Prelude.{◌==◌, ◌&&◌, ◌||◌, not, nat_lt, if◌then◌else◌}
+use Rattle.std.specs.Prelude.{◌==◌, ◌&&◌, not, nat_lt, if◌then◌else◌}
 use Rattle.std.proofs.lemmas.Bool.{ltb-true, lt-ltb, eqb-true, eq-eqb, ne_eqb, and_parts}
 use Rattle.std.proofs.lemmas.List.Elements.{All-head}
 use Rattle.std.proofs.lemmas.Option.{slice_get_within}
@@ -30,7 +30,7 @@ use Rattle.fk_core_liveness.specs.Frames.{is_main_place}
 use Rattle.fk_core_liveness.specs.Live.{reads, kept_behind, asked_by, asked_of, IsLive, IsLeast, words_in}
 use Rattle.fk_core_liveness.proofs.Asked.{split_or}
 use Rattle.fk_core_typing.specs.Laws.{LeadsWithin}
-use Rattle.fk_core_typing.specs.Values.{Place, with_frame, entered, place_behind}
+use Rattle.fk_core_typing.specs.Values.{Place, entered, place_behind}
 use Rattle.fk_lockstep_frames.specs.Nests.{Nest, OfFunction, OfPart, nesting, levels_of, left_by_fork, forks_of, is_numbered, take_frame, IsInPart}
 use Rattle.fk_gen.specs.declared.placed.Levels.{Levels}
 use Rattle.fk_gen.specs.Levels.{levels_in}

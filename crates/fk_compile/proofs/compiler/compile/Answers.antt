@@ -70,11 +70,11 @@ returns-clause-rows c =
       are = c.in_ok-text.ensures.laid.rows;
     }
 
-abbrev image_of : goal.After-programs_are_followed → Image
+abbrev image_of : goal.After-drop-text-6 → Image
 image_of c = record { code = c.in_ok-code.code.words; globals = c.in_ok-text.text.layout.words; sites = c.in_ok-sites.sites; commits = c.in_ok-code.code.commits }
 
 -- the code and the table of sites, of which the image is put together
-put_together : (c : goal.After-programs_are_followed)
+put_together : (c : goal.After-drop-text-6)
     → IsPutTogether (program_of c.in_ok-text.text.tree) c.in_ok-text.text.facts c.in_ok-text.text.layout c.in_ok-text.ensures.laid c.in_ok-text.ensures.fits c.in_ok-list.list.ops.items c.in_ok-kept.kept.items
     c.in_ok-saved.saved.items c.in_ok-list.list.main c.in_ok-code.code (image_of c)
 put_together c =
