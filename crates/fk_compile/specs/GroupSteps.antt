@@ -1,5 +1,5 @@
--- What the members of a group in lockstep do in a round of the run of a text, and what they make of a
--- word that they alone touch.
+-- What the members of a group in lockstep do in a round of the run of a text, and what they make of
+-- a word that they alone touch.
 use Rattle.std.specs.Prelude.{◌≡◌, ℕ, ◌≤◌, true, List, slice_get, Option, Some}
 use Rattle.fk_syntax.specs.declared.facts.Facts.{Facts}
 use Rattle.fk_syntax.specs.Program.{ProgramTree}

@@ -63,8 +63,9 @@ pub fn texts_have_one_space()
     texts_are_proper();
 }
 
-/// In the program that a text spells, the members of a group in lockstep do equally many operations
-/// in a round without a fault, and they come to the same request, or to the same step of the tree.
+/// In the program that a text spells, the members of a group in lockstep do equally many
+/// operations in a round without a fault. They come to the same request, to the same step of the
+/// tree, or to none.
 pub fn texts_act_as_one()
     ensures { TextsActAsOne }
 {
