@@ -14,7 +14,7 @@
        000.111.     the parts of the parts: each member is alone in one
        01234567     $ is as it was
 
-   Cost: 0 cycles. */
+   Cost: 4,099 cycles. */
 #include <fork.h>
 #include <io.h>
 

@@ -10,7 +10,7 @@
 
    Each fork divides the space of its group, so some fourteen levels fit into one another.
 
-   Cost: 0 cycles. */
+   Cost: 3,751 cycles. */
 #include <fork.h>
 #include <io.h>
 

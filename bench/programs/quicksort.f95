@@ -21,11 +21,11 @@ void sort_alone(int low, int high) {
 }
 
 sync void sort(sh int low, sh int high) {
-  sh int mean, ends[2], few;
+  sh int mean, next, ends[2], few;
   int i;
-  if (groupsize() == 1 || high - low <= 2 * groupsize()) { seq sort_alone(low, high); return; }
-  mpadd(&mean, numbers[low + $]);
-  mean = mean / groupsize();
+  if (groupsize() == 1 || high - low <= 8 * groupsize()) { seq sort_alone(low, high); return; }
+  for (next = 0; next < 8; next++) mpadd(&mean, numbers[low + 8 * $ + next]);
+  mean = mean / (8 * groupsize());
   ends[0] = low;
   ends[1] = high - 1;
   for (i = low + $; i < high; i += groupsize()) {
