@@ -79,10 +79,10 @@ pub fn sites_are_own()
     ensures { SitesAreOwn }
 {}
 
-/// In every run of the list of a program that keeps all rules and has a layout, each processor is at
-/// one node of the tree of groups, as its operations and its levels tell, and the members of a group
-/// in lockstep are at one index of the list and have one space. This holds after every schedule of
-/// possible rounds in which each processor does one operation at most.
+/// In every run of the list of a program that keeps all rules and has a layout, each processor is
+/// at one node of the tree of groups, as its operations and its levels tell, and the members of a
+/// group in lockstep are at one index of the list and have one space. This holds after every
+/// schedule of possible rounds in which each processor does one operation at most.
 pub fn programs_stay_in_trees()
     ensures { ProgramsStayInTrees }
 {}
@@ -117,8 +117,8 @@ pub fn grouped_lists_are_generable()
 {}
 
 /// The flat list of a program that keeps all rules and has a layout, with the depths and sites of
-/// its text and the levels that are found for it, keeps its processors in the tree of groups, as the
-/// laws of machines require.
+/// its text and the levels that are found for it, keeps its processors in the tree of groups, as
+/// the laws of machines require.
 pub fn lists_are_of_tree()
     ensures { ListsAreOfTree }
 {}
