@@ -240,7 +240,7 @@ abbrev pub HasWords : Option Operation → Type 0
 HasWords (Some (Frame nesting words)) = words < 2 ^ 21
 HasWords operation = Unit {0}
 
--- The words of a frame have numbers in lists.
+-- The frame of the group that a `fork` divided has few enough words for a number of a list.
 abbrev pub HasFewWords : Option ℕ → Type 0
 HasFewWords None = Unit {0}
 HasFewWords (Some words) = words < 2 ^ 21
