@@ -173,9 +173,9 @@ node_lines globals =
     quiet (Lui t1 (high_part (group_words globals))) ∷
     quiet (Addi t1 t1 (low_part (group_words globals))) ∷ quiet (Add node_register t0 t1) ∷ []
 
--- They get the space of their group and go to its body. The frames begin after the header. The
--- blocks begin at the end of the space, which is halfway from its first word to the root's control
--- words.
+-- All processors get the space of their group and go to its body. The frames begin after the
+-- header. The blocks begin at the end of the space, which is halfway from its first word to the
+-- root's control words.
 abbrev pub space_lines : List MarkedLine
 space_lines =
     quiet (Addi frames_register node_register 32) ∷

@@ -476,7 +476,7 @@ fn emit_staying(into: &mut Assembler, depth: u32) -> Result<(), AllocError>
     )
 }
 
-// They are as many as were counted.
+// The size of the part is what was counted: those who stay.
 fn emit_size(into: &mut Assembler) -> Result<(), AllocError>
     requires room { length into.old.lines + 1 < 2 ^ 30 }
     requires free { AreFollowed into.old }
