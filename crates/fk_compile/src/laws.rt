@@ -4,7 +4,7 @@ ghost use Rattle.fk_compile.specs.Led.{ProgramsAreLed};
 ghost use Rattle.fk_compile.specs.OneProgram.{AskedEvaluates, TypedEvaluates, ForksGiveValues};
 ghost use Rattle.fk_compile.specs.OneProgram.{CorrectProgramsHaveOneProgram, TextsHaveOneProgram};
 ghost use Rattle.fk_compile.specs.OneProgram.{TextsHaveOneSpace};
-ghost use Rattle.fk_compile.specs.GroupSteps.{TextsStepAsOne};
+ghost use Rattle.fk_compile.specs.GroupSteps.{TextsActAsOne, TextsStepAsOne};
 ghost use Rattle.fk_compile.specs.Trees.{SitesAreOwn, ProgramsStayInTrees, ListsAreOfTree};
 ghost use Rattle.fk_compile.specs.ListLaws.{StraightHasNoTarget, ListsHaveBlocks};
 ghost use Rattle.fk_compile.specs.ListLaws.{StepsFindValues, GroupedListsAreGenerable};
@@ -58,6 +58,16 @@ pub fn texts_have_one_program()
 /// also holds of those who wait at one node.
 pub fn texts_have_one_space()
     ensures { TextsHaveOneSpace }
+{
+    texts_are_trim();
+    texts_are_proper();
+}
+
+/// In the program that a text spells, the members of a group in lockstep do equally many
+/// operations in a round without a fault. They come to the same request, to the same step of the
+/// tree, or to none.
+pub fn texts_act_as_one()
+    ensures { TextsActAsOne }
 {
     texts_are_trim();
     texts_are_proper();

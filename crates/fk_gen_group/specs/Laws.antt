@@ -78,7 +78,7 @@ GroupsAgree =
     (core : List CoreOp) (image : Image) (bound : ℕ → ℕ) (places : Places) (nestings : Nestings)
     (i : ℕ) (op : CoreOp) (lowest size : ℕ)
     → IsInPlace core image bound places nestings i op Agree → StepTogether core image places
-    nestings i op Agree (λ ps. Unit {0}) 2 1 None (λ p. None) lowest size
+    nestings i op Agree 1 (λ ps. Unit {0}) 2 1 None (λ p. None) lowest size
 
 -- The block of a `barrier`, of the end of a body or of the end of a part leads its hart to a
 -- meeting, where it arrives after at most 7 cycles.
@@ -95,7 +95,7 @@ GroupsSetFree =
     (core : List CoreOp) (image : Image) (bound : ℕ → ℕ) (places : Places) (nestings : Nestings)
     (i : ℕ) (op : CoreOp) (lowest size : ℕ)
     → size ≤ 1024 → IsInPlace core image bound places nestings i op Farm
-    → PartTogether core image places nestings i op Farm (λ ps. AreOfSize size ps) 0 0 None
+    → PartTogether core image places nestings i op Farm 1 (λ ps. AreOfSize size ps) 0 0 None
     (λ p. Some size) lowest size
 
 -- The lowest member alone comes to the body of a `seq`, which it runs by itself. The others come to
@@ -105,7 +105,7 @@ GroupsSendOne =
     (core : List CoreOp) (image : Image) (bound : ℕ → ℕ) (places : Places) (nestings : Nestings)
     (i : ℕ) (op : CoreOp) (lowest size : ℕ)
     → IsInPlace core image bound places nestings i op Seq → LevelsStay nestings i op.target
-    → PartTogether core image places nestings i op Seq
+    → PartTogether core image places nestings i op Seq 1
     (λ ps. (length ps ≤ 1024) × IsLowest lowest ps) 3 2 None (one_runs lowest) lowest size
 
 -- The members of the group of `start`, which has no level in the frame, go back to the root.
@@ -115,7 +115,7 @@ GroupsEnd =
     (i : ℕ) (op : CoreOp) (lowest size : ℕ)
     → IsInPlace core image bound places nestings i op End
     → (nestings.levels i ≡ 0 → LevelsStay nestings i op.target)
-    → EndTogether core image places nestings i op 6 lowest size
+    → EndTogether core image places nestings i op 1 6 lowest size
 
 -- At the beginning of `start` all processors meet in the root, after at most 9 cycles. Two cycles
 -- after the one in which they leave they commit, and know the last value of the highest. Those with
@@ -137,7 +137,7 @@ GroupsTakeFrames =
     (core : List CoreOp) (image : Image) (bound : ℕ → ℕ) (places : Places) (nestings : Nestings)
     (i : ℕ) (op : CoreOp) (nesting words lowest size : ℕ)
     → IsInPlace core image bound places nestings i op (Frame nesting words) → op.site < 2 ^ 32
-    → StepTogether core image places nestings i op (Frame nesting words) AreInGroup
+    → StepTogether core image places nestings i op (Frame nesting words) 1 AreInGroup
     (frame_takes words) 0 None (λ p. None) lowest size
 
 -- Members in lockstep take a block of `shalloc` together. They commit at once, and 12 cycles bring
@@ -147,7 +147,7 @@ GroupsTakeBlocks =
     (core : List CoreOp) (image : Image) (bound : ℕ → ℕ) (places : Places) (nestings : Nestings)
     (i : ℕ) (op : CoreOp) (lowest size : ℕ)
     → IsInPlace core image bound places nestings i op Block
-    → StepTogether core image places nestings i op Block AreInGroup 0 12 None (λ p. None)
+    → StepTogether core image places nestings i op Block 1 AreInGroup 0 12 None (λ p. None)
     lowest size
 
 -- ---- parts
