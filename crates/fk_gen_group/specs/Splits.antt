@@ -87,7 +87,7 @@ parting_lines label word target site =
     goes_to (Jal zero_register 0) (label_of target) ∷ no_parts site
 
 -- Who enters a part of a `fork` has in t3 the address of the first control word after the frames of
--- the group. If the `fork` is in no part of its call, the header keeps this address.
+-- the group. If the `fork` leaves the first level of its call, the header keeps this address.
 abbrev pub heading_by : (count : ℕ) → List MarkedLine
 heading_by count = if count == 0 then quiet (Sw end_register t3 (at_value 60)) ∷ [] else []
 

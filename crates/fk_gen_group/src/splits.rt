@@ -29,7 +29,7 @@ const FIRST_LABEL: u32 = 128;
 /// The offset of the device that ends a run at a site, from the first device, in bytes.
 const FAULT_DEVICE: u32 = 8;
 /// How many words before the end of a call's frame its header has the address of the first control
-/// word after the frames of the group that a `fork` in no part of the call divides.
+/// word after the frames of the group that is the first level of the call, if a `fork` divides it.
 const FRAMES_PLACE: u32 = 60;
 
 /// A split. Most of its code is shared.
@@ -223,8 +223,8 @@ fn emit_way(
     )
 }
 
-// Who enters a part of a `fork` stores where the frames of the group around it end, if that group
-// is no part of the call.
+// Who enters a part of a `fork` stores where the frames of the group around it end, if that is the
+// first level of the call.
 fn emit_heading(into: &mut Assembler, by: SplitKind, levels: Levels) -> Result<(), AllocError>
     requires room { length into.old.lines + length (s.heading_lines by levels) < 2 ^ 30 }
     requires free { AreFollowed into.old }

@@ -117,8 +117,8 @@ pub record HasLevel (memory : Memory) (at : ℕ) (level : Level) (outer : List L
   pub blocks : memory (at + 2) ≡ control_address level.space.blocks
   pub frames : memory (at + 3) ≡ control_address level.space.frames
 
--- The word of the header of a call where a `fork` that is in no part of this call saves the address
--- of the first control word after the frames.
+-- The word of the header of a call where a `fork` that leaves the first level of this call saves
+-- the address of the first control word after the frames.
 abbrev pub frames_word : (waiting : ℕ) → ℕ
 frames_word waiting = frame_end waiting - 60
 
