@@ -27,7 +27,7 @@ module _ {W : Type 0} (next : W → Option (Step W)) (setting : Setting) (round 
   InLockstep n = t.kind s.tree n ≡ Some Lockstep
 
   -- two members of group n, which is in lockstep, and what they come to in a round: a request, a
-  -- step of the tree, or nothing of these
+  -- step of the tree, or neither
   pub record Members (n g h : ℕ) (a b : Acting W) : Type 0 where
     pub lockstep : InLockstep n
     pub first : is_member g (t.members s.tree n) ≡ true
@@ -74,12 +74,13 @@ InRounds Says =
     → let s = run next setting schedule first in
     (round : Round) → is_possible next setting round s ≡ true → Says next setting round s
 
+-- the members of a group in lockstep act as one
 abbrev pub TextsActAsOne : Type 0
 TextsActAsOne = InRounds (λ next setting round s.
     (n g h : ℕ) (a b : Acting Work) → Members next setting round s n g h a b
     → ActAsOne next setting round s g h a b)
 
--- where anybody touches the word at all
+-- the members of a group step as one on a word that they alone touch, if any of them touches it
 abbrev pub TextsStepAsOne : Type 0
 TextsStepAsOne = InRounds (λ next setting round s.
     (n x : ℕ) → TouchAlone next setting round s n x

@@ -173,9 +173,9 @@ node_lines globals =
     quiet (Lui t1 (high_part (group_words globals))) ∷
     quiet (Addi t1 t1 (low_part (group_words globals))) ∷ quiet (Add node_register t0 t1) ∷ []
 
--- They get the space of their group and go to its body. The frames begin after the header. The
--- blocks begin at the end of the space, which is halfway from its first word to the root's control
--- words.
+-- All processors get the space of their group and go to its body. The frames begin after the
+-- header. The blocks begin at the end of the space, which is halfway from its first word to the
+-- root's control words.
 abbrev pub space_lines : List MarkedLine
 space_lines =
     quiet (Addi frames_register node_register 32) ∷
@@ -240,7 +240,7 @@ abbrev pub HasWords : Option Operation → Type 0
 HasWords (Some (Frame nesting words)) = words < 2 ^ 21
 HasWords operation = Unit {0}
 
--- The words of a frame have numbers in lists.
+-- The frame of the group that a `fork` divided has few enough words for a number of a list.
 abbrev pub HasFewWords : Option ℕ → Type 0
 HasFewWords None = Unit {0}
 HasFewWords (Some words) = words < 2 ^ 21

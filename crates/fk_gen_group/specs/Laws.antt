@@ -28,7 +28,7 @@ use Rattle.fk_gen_group.specs.Start.{gathered_at, who_comes}
 use Rattle.fk_sim_block.specs.Joint.{is_meeting, BlockMeets}
 use Rattle.fk_sim_block.specs.Start.{BlockStarts}
 
--- How the last level at an index was left.
+-- Whether a `fork` left the last level at an index.
 abbrev pub last_fork : Nestings → (index : ℕ) → Option ℕ
 last_fork nestings i = nestings.forks i (nestings.levels i - 1)
 
@@ -41,12 +41,13 @@ levels_at nestings i = record {
   fork = last_fork nestings i;
 }
 
--- A `fork` leaves a level that is told as such, and any other split one that isn't.
+-- The level that a `fork` leaves is told as one that a `fork` left. That of any other split isn't.
 abbrev pub LeavesBy : SplitKind → Option ℕ → Type 0
 LeavesBy Fork None = ⊥
 LeavesBy Fork (Some words) = Unit {0}
 LeavesBy by told = told ≡ None
 
+-- At the second index there is one level more, which this split left.
 pub record OpensBy (by : SplitKind) (nestings : Nestings) (i j : ℕ) : Type 0 where
   pub opens : LevelOpens nestings i j
   pub left : LeavesBy by (nestings.forks j (nestings.levels i))

@@ -176,7 +176,7 @@ ListsHaveTheLaw =
 
 -- ---- the levels of a list
 
--- The levels that are told of a list, and how each of them was left.
+-- The levels that are told of a list, and which of them a `fork` left.
 abbrev pub nestings_of : List Levels → (forks : (index level : ℕ) → Option ℕ) → (start : Gathering)
     → Nestings
 nestings_of saved forks start = record {
@@ -187,7 +187,7 @@ nestings_of saved forks start = record {
   start = start;
 }
 
--- What is told of the last level is so.
+-- Whether a `fork` left the last level is as it is told of all levels.
 abbrev pub TellsForks : List Levels → (forks : (index level : ℕ) → Option ℕ) → Type 0
 TellsForks saved forks =
     (i : ℕ) → (levels_in saved i).fork ≡ forks i ((levels_in saved i).count - 1)
