@@ -163,8 +163,8 @@ pub record IsUnread (request : Request) : Type 0 where
   pub cause : IsFileUnread request command ⊎ IsInputUnread request command
 
 -- The words are a command, and its bytes were read: the first ones of its file, if the store's
--- files are known, or its generated text. If the command takes an input, then the first bytes of the
--- input were read too, if these are known.
+-- files are known, or its generated text. If the command takes an input, then the first bytes of
+-- the input were read too, if these are known.
 pub record HasRead (request : Request) (outcome : Outcome) : Type 0 where
   pub command : Command
   pub reads : Reads request.words command

@@ -83,7 +83,7 @@ IsFile Nowhere = ⊥
 abbrev pub IsFetch : List Text → Type 0
 IsFetch words = (command : Command) × Reads words command × IsFile (origin_of command)
 
--- The most bytes of the input that a command takes: one more than an input text may have, or none.
+-- The most bytes of the input that a command takes: one more than an input text may have, or 0.
 abbrev pub most_input : Command → ℕ
 most_input (Run file harts cycles show) = most_text_bytes + 1
 most_input (Build file image) = 0

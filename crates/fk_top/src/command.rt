@@ -42,7 +42,7 @@ pub fn origin_of<'a>(command: CommandWords<'a>) -> OriginWords<'a>
     }
 }
 
-/// The most bytes of the input that a command takes, or none.
+/// The most bytes of the input that a command takes, 0 if it takes none.
 pub fn most_input(command: CommandWords) -> usize
     ensures { result ≡ most_input (command_of command.entry) }
 {

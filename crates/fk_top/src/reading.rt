@@ -1,4 +1,4 @@
-//! Reading what a command reads.
+//! The bytes that a command reads.
 
 ghost use Rattle.std.specs.Prelude.{◌≡◌, IfOk, IsErrOf, OnOk};
 ghost use Rattle.fk_top.specs.Call.{AreRead, OriginFaults, change_of};
