@@ -1,16 +1,15 @@
 -- Rounds and runs that use a lock.
-use Rattle.std.proofs.Common.{◌≡◌, ℕ, suc, ◌<◌, ◌^◌, List, [], ◌∷◌, ◌++◌, Option, Some, None, refl, sym, ap, ◌∙◌, subst}
+use Rattle.std.proofs.Common.{ℕ, suc, [], ◌∷◌, Option, Some, sym, ap, ◌∙◌, subst}
 use Rattle.std.specs.Prelude.{fold, take}
 use Rattle.std.proofs.lemmas.List.Sums.{fold-append}
-use Rattle.fk_meaning_store.specs.declared.request.Request.{Request}
 use Rattle.fk_meaning.specs.Processor.{Setting}
-use Rattle.fk_meaning.specs.Round.{Step, State, Round, Acting, result}
+use Rattle.fk_meaning.specs.Round.{Step, State, result}
 use Rattle.fk_meaning.specs.Schedule.{Schedule, run}
 use Rattle.fk_meaning.specs.Touch.{answer, word_after}
 use Rattle.fk_meaning.proofs.Turns.{requests_go_in_turn}
-use Rattle.fk_tickets.specs.Lock.{Event, Lock, after, opening}
+use Rattle.fk_tickets.specs.Lock.{Lock, after, opening}
 use Rattle.fk_tickets.proofs.Histories.{excludes, first_drawn_enters_first}
-use Rattle.fk_locks_runs.specs.Locks.{AreOfLock, AreWords, Excludes, IsUsed, RoundsUseLocks, RunsExclude, UsesFairly, UsesLock, asked, events, history}
+use Rattle.fk_locks_runs.specs.Locks.{AreWords, IsUsed, RoundsUseLocks, RunsExclude, asked, events, history}
 use Rattle.fk_locks_runs.proofs.Words.{some_of_lock, words_after}
 
 pub rounds_use_locks : (W : Type 0) → RoundsUseLocks W

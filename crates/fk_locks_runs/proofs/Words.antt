@@ -1,6 +1,6 @@
 -- The words of a lock as the requests of a round leave them.
-use Rattle.std.proofs.Common.{◌≡◌, ℕ, zero, suc, ◌+◌, ◌%◌, ◌^◌, Bool, true, false, List, [], ◌∷◌, Option, Some, None, refl, sym, ap, ap₂, ◌∙◌, subst, arith, ◌⊎◌, inl, inr}
-use Rattle.std.specs.Prelude.{◌&&◌, ◌==◌, fold, take, is_some, if◌then◌else◌}
+use Rattle.std.proofs.Common.{◌≡◌, ℕ, zero, suc, ◌+◌, ◌%◌, ◌^◌, Bool, true, false, List, [], ◌∷◌, Option, Some, None, refl, sym, ap, ap₂, ◌∙◌, arith, ◌⊎◌, inl, inr}
+use Rattle.std.specs.Prelude.{◌&&◌, fold, take, is_some, if◌then◌else◌}
 use Rattle.std.proofs.lemmas.Bool.{cases_eq, ne_eqb}
 use Rattle.fk_meaning_operation.specs.declared.operation.Operation.{Operation}
 use Rattle.fk_meaning_operation.specs.declared.kinds.Class.{Class}
@@ -13,7 +13,7 @@ use Rattle.fk_meaning.specs.Processor.{Processor}
 use Rattle.fk_meaning.specs.Request.{request}
 use Rattle.fk_meaning.specs.Round.{Acting}
 use Rattle.fk_meaning.specs.Touch.{after_touch, combined_with, is_word, operation_due, touch, touch_by, touch_of, touches, word_after}
-use Rattle.fk_tickets.specs.Lock.{Act, Draw, Look, Give, Event, Lock, after, event}
+use Rattle.fk_tickets.specs.Lock.{Draw, Look, Give, Event, Lock, after, event}
 use Rattle.fk_locks_runs.specs.Locks.{AreOfLock, IsOfNext, IsOfNow, act_by, events, told_by}
 
 -- ---- a request accesses one word
