@@ -1,4 +1,4 @@
-use Rattle.std.proofs.Common.{◌≡◌, ◌<◌, ◌^◌, List, [], ◌∷◌, ◌++◌, length, map, option_map, ap, refl, ◌∙◌, arith, rules}
+use Rattle.std.proofs.Common.{IsTrue, ◌≡◌, ◌<◌, ◌^◌, List, [], ◌∷◌, ◌++◌, length, map, option_map, ap, refl, ◌∙◌, arith, rules}
 use Rattle.std.proofs.lemmas.List.{length-map, map-append}
 use Rattle.fk_trace.specs.Text.{Range}
 use Rattle.fk_replay_text.specs.ColumnView.{column_of}
@@ -25,7 +25,8 @@ returns-then-not-comes_next c =
 pub loop-behind-preserved : goal.loop-behind-preserved
 loop-behind-preserved c =
     let l = c.loop-behind in
-    let both = c.comes_next.ensures.0 (first_of (c.if-not-comes_next.false, search rules, grind arith)) in
+    let yes : IsTrue c.comes_next.result = first_of (search (rules, c.if-not-comes_next.false), grind (arith, c.if-not-comes_next.false), search rules) in
+    let both = c.comes_next.ensures.0 yes in
     let items : map range_of c.push.new.self.items ≡ map range_of l.ranges.items ++ (range_of c.in-Some-read_range.acts ∷ []) =
     ap (map range_of) c.in_ok-push.ensures.items ∙ map-append range_of l.ranges.items (c.in-Some-read_range.acts ∷ []) in
     rw items (reads_on (column_of c.args.column) c.args.harts c.args.text.now l.rest.now c.in-Some.behind.now c.first_word.result.0.now c.first_word.result.1.now (map range_of l.ranges.items)

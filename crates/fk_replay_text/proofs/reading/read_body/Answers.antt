@@ -1,4 +1,4 @@
-use Rattle.std.proofs.Common.{◌≡◌, ◌<◌, ◌≤◌, ◌^◌, inl, inr, length, map, sym, ◌∙◌, arith, rules}
+use Rattle.std.proofs.Common.{IsTrue, ◌≡◌, ◌<◌, ◌≤◌, ◌^◌, inl, inr, length, map, sym, ◌∙◌, arith, rules}
 use Rattle.fk_replay_text.specs.ColumnView.{column_of}
 use Rattle.fk_replay_text.specs.LineView.{told_of}
 use Rattle.fk_replay_text.specs.Trace.{Follows}
@@ -61,7 +61,8 @@ pub loop-line-preserved : goal.loop-line-preserved
 loop-line-preserved c =
     let l = c.loop-line in
     let told = rw c.in-Some-2.is at c.in_ok-told.ensures in
-    let follows : Follows l.place.cycle l.place.rank (column_of c.in-Some-2.told.column) c.in-Some-2.told.cycle = c.is_before.ensures.0 (first_of (c.if-not-is_before.false, search rules, grind arith)) in
+    let yes : IsTrue c.is_before.result = first_of (search (rules, c.if-not-is_before.false), grind (arith, c.if-not-is_before.false), search rules) in
+    let follows : Follows l.place.cycle l.place.rank (column_of c.in-Some-2.told.column) c.in-Some-2.told.cycle = c.is_before.ensures.0 yes in
     rw (c.of-place.ensures.cycle, c.of-place.ensures.rank, c.in_ok-keep.ensures)
     (goes_on c.args.harts c.args.text.now l.rest.now c.in-Some.line.now c.in-Some.behind.now (map moment_of l.moments.items) l.place.cycle l.place.rank l.number (told_of c.in-Some-2.told)
     l.invariant c.in-Some.ensures told.1 told.0 follows)
