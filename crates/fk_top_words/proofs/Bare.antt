@@ -1,14 +1,12 @@
 -- The words behind the name of a command without arguments: there are none, or `--` alone.
-use Rattle.std.proofs.Common.{◌≡◌, ℕ, true, false, List, [], ◌∷◌, Option, Some, None, codes, refl, sym, ap, ◌∙◌, subst, map}
-use Rattle.std.specs.Prelude.{slice_get}
-use Rattle.std.specs.Str.{IsUtf8, chars}
+use Rattle.std.proofs.Common.{◌≡◌, true, false, List, [], ◌∷◌, None, codes, refl, sym, ap, ◌∙◌, subst, map}
+use Rattle.std.specs.Str.{IsUtf8}
 use Rattle.clap.specs.declared.error.kind.ErrorKind.TheVariants.{UnknownArgument}
 use Rattle.clap.specs.Walk.{walked}
-use Rattle.clap.specs.Faults.{defaults_fault, flags_fault, turn_fault, walk_fault}
+use Rattle.clap.specs.Faults.{defaults_fault, flags_fault, walk_fault}
 use Rattle.fk_top_words.specs.Arguments.{Text, Part, File, Harts, Cycles, Show, Image, Argument, Values, Gives, Spells, Nothing, Plain, Apart, Joined, Attached, Ended, all_values, argument, values_of}
 use Rattle.fk_top_words.specs.Command.{no_values}
-use Rattle.fk_top_words.proofs.Rules.{command}
-use Rattle.fk_top_words.proofs.Given.{at, first_empty}
+use Rattle.fk_top_words.proofs.Given.{at}
 use Rattle.fk_top_words.proofs.Forms.{Form, dashes, first_char, form, long, plain, short}
 use Rattle.fk_top_words.proofs.Steps.{Turn}
 use Rattle.fk_top_words.proofs.Taken.{AreTexts, goes_fine, rest_fault, turn_of}
