@@ -5,8 +5,8 @@
    `fork (k; @=p; $=r) S` makes k parts at once: a member whose p is from 0 to k-1 enters the part of that
    number, and the others wait. In a part `@` is its number and `$` is r, and groupsize() counts its
    members. Here k is 3, p is $ % 4 and r is $ / 4: so two members enter each part, and 3 and 7 wait. Each
-   part forks again, by half of its numbers. It prints a row for `@`, for `$` and for the size in the parts,
-   a row for `@` in the parts of the parts, and a row for `$` behind it all:
+   part forks again, into two parts of one member each. It prints a row for `@`, for `$` and for the size in
+   the parts, a row for `@` in the parts of the parts, and a row for `$` behind it all:
 
        012.012.     @: who has the same number is in one group
        000.111.     $: ranks begin anew in each part

@@ -43,6 +43,10 @@ def image(code, sites=(), commits=(), version=1):
     return b"FK95" + struct.pack("<%dI" % len(words), *words)
 
 
+LOCK = b"""struct FairLock { unsigned next; unsigned now; };
+void fair_take(struct FairLock *l) { pr unsigned t = mpadd(&l->next, 1); while (l->now != t) ; }
+void fair_give(struct FairLock *l) { mpadd(&l->now, 1); }
+"""
 ATOMIC = image([AMOADD])
 BAD_ADDRESS = image([DEVICES, FAULT], sites=[(12, 7, 9)])
 FILES = {
@@ -62,6 +66,15 @@ FILES = {
     "long.f95": b" " * 1048577,
     "a name with blanks.f95": SUMS,
     "-o.f95": SUMS,
+    "counted.f95": LOCK + b"""sh struct FairLock k; sh int n;
+void main(void) { start farm { pr int i; for (i = 0; i < 10; i++) { fair_take(&k); n = n + 1; fair_give(&k); } } }
+""",
+    "two_locks.f95": LOCK + b"""sh struct FairLock k[2]; sh int n[2];
+void main(void) { start farm {
+  pr int i, j = __PROC_NR__ % 2;
+  for (i = 0; i < 10; i++) { fair_take(&k[j]); n[j] = n[j] + 1; fair_give(&k[j]); }
+} }
+""",
     "atomic.image": ATOMIC,
     "fault.image": BAD_ADDRESS,
     "no_site.image": image([DEVICES, FAULT]),
@@ -241,6 +254,10 @@ NO_COMMAND = [
     ["build", "sums.f95"],
     ["list"],
     ["list", "atomic.image", "more"],
+    ["locks", "sums.f95"],
+    ["locks", "--", "sums.f95"],
+    ["locks", "--harts", "1"],
+    ["locks", "-o", "lock.f95"],
     ["selftest"],
     ["selftest", "0"],
     ["selftest", "501"],
@@ -840,6 +857,14 @@ ROWS += [
     Row(["selftest", "6"], 0, selftest_line(6), FINISHED, given=b"x"),
     Row(["selftest", "6"], 0, selftest_line(6), FINISHED, given_from="."),
     Row(["selftest", "6"], 4, b"", "", out_to="/dev/full"),
+]
+ROWS += [
+    Row(["locks"], 0, LOCK, "wrote 205 bytes\n"),
+    Row(["locks", "--"], 0, LOCK, "wrote 205 bytes\n"),
+    Row(["locks"], 0, LOCK, "wrote 205 bytes\n", given_from="."),
+    Row(["locks"], 4, b"", "", out_to="/dev/full"),
+    Row(run("counted.f95", harts=32) + ["--show", "n"], 0, b"n = 320\n", FINISHED),
+    Row(run("two_locks.f95", harts=32) + ["--show", "n"], 0, b"n = 160 160\n", FINISHED),
 ]
 
 

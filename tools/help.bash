@@ -12,6 +12,7 @@ Usage:
   fork95 audit FILE --harts P --cycles N               compile, run, and tell which PRAM the run needed
   fork95 trace FILE --harts P --cycles N               compile, run, and tell who does what when
   fork95 selftest COUNT                                compile and run a generated text of so many statements
+  fork95 locks                                         print the text of the fair lock
   fork95 explain RULE|NAME                             explain a rule (1 to 40) or the name in a report
 
 P is 1 to 1024, N is 0 to 4294967295, COUNT is 1 to 500. Give no input by </dev/null.
@@ -35,7 +36,7 @@ explain() {
 # The file that the command's words name.
 file_of() {
     local word takes=
-    if [ "$1" = selftest ]; then return; fi
+    if [ "$1" = selftest ] || [ "$1" = locks ]; then return; fi
     shift
     while [ $# -gt 0 ]; do
         word=$1
@@ -110,6 +111,7 @@ help_with_words() {
                 [[ " $* " == *" $word"[\ =]* ]] || echo "$1 needs $word N."
             done ;;
         build | elf | unelf) [[ " $* " == *" -o"* ]] || echo "$1 needs -o and the name of a file." ;;
+        locks) echo "locks takes no further words." ;;
         selftest) echo "selftest needs a number from 1 to 500, and nothing else." ;;
         list) ;;
         *) echo "${1-} is no command." ;;

@@ -42,6 +42,7 @@ UNSORTED = [42, 7, 91, 15, 7, 63, 28, 80, 3, 56, 34, 77, 19, 42, 88, 50]
 FIELD = "........\n"
 OUTPUTS = {
     "bad_pointer": lines(10, 20, 30, 40),
+    "bank": lines(80, 80, "deposits without a lock were lost"),
     "breadth_first": lines(1, 3, 9, 17, 24, 10),
     "exclusive": lines(sum(1 for number in range(1, 47, 3) if number % 2 == 0)),
     "farm": lines(29, 1008),
@@ -70,6 +71,7 @@ OUTPUTS = {
     "reduction": lines(max(range(3, 1781, 7)), sum(range(3, 1781, 7))),
     "sums": lines(5, -1, 0, -2147483648),
     "sync_recursion": lines(*[number**10 for number in range(8)]),
+    "unfair": lines(2),
     "who_is_where": lines("wwwwwwwr", "sgggggww", "bbfbffww", "bbbbfbww", "efeeeeww", "ggggggww", "rrrrrrrr"),
     "writes": lines(7, 42, *[number * number for number in range(8)]),
 }

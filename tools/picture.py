@@ -21,7 +21,7 @@ from xml.sax.saxutils import escape
 MOST_ROWS = 400
 PICTURE_HEIGHT = 800
 PICTURE_WIDTH = 960
-LEFT, TOP, LEGEND_HEIGHT = 70, 64, 64
+LEFT, TOP = 70, 64
 DEPTH_COLOURS = (
     "#e3ecf7", "#a9cbe8", "#66a5d6", "#2f78b3", "#f3b94d", "#e07b39", "#b5442e", "#6d1f2b",
 )
@@ -294,7 +294,7 @@ class Drawing:
         self.cells(reader)
         self.marks()
         self.axes()
-        self.legend(reader)
+        self.legend()
 
     def add(self, text):
         self.parts.append(text)
@@ -361,15 +361,27 @@ class Drawing:
             self.text(LEFT - 8, y + 4, str(rows.start_of(row)), "end", 10)
             self.add(f'<path stroke="#888" d="M{LEFT - 5} {y}h5"/>')
 
-    def legend(self, reader):
-        y, x = self.bottom + 22, LEFT
+    def legend(self):
+        y = self.colours_told(self.bottom + 22)
+        y = self.signs_told(y + 22)
+        self.step_told(y + 20)
+        self.foot = y + 20
+
+    def colours_told(self, y):
+        """Tells the colours from this line on, in as many lines as they take, and returns the last."""
         deepest = max((max(line) for line in self.rows.depths if line), default=0)
-        for depth in range(min(deepest, len(DEPTH_COLOURS) - 1) + 1):
-            words = "in the root" if depth == 0 else f"depth {depth}"
-            x = self.box(x, y, DEPTH_COLOURS[depth], words)
-        x = self.box(x, y, WAIT_COLOUR, "waits")
-        self.box(x, y, "#ffffff", "has ended")
-        x, y = LEFT, y + 22
+        told = [(DEPTH_COLOURS[0], "in the root")]
+        told += [(colour, f"depth {depth}") for depth, colour in enumerate(DEPTH_COLOURS)][1 : deepest + 1]
+        told += [(WAIT_COLOUR, "waits"), ("#ffffff", "has ended")]
+        x = LEFT
+        for colour, words in told:
+            if x > LEFT and x + 19 + 6 * len(words) > self.width:
+                x, y = LEFT, y + 18
+            x = self.box(x, y, colour, words)
+        return y
+
+    def signs_told(self, y):
+        x = LEFT
         for event in EVENTS:
             self.add(
                 f'<path fill="none" stroke="{MARK_COLOURS[event]}" stroke-width="1.5" '
@@ -377,13 +389,16 @@ class Drawing:
             )
             self.text(x + 26, y, event)
             x += 76
+        return y
+
+    def step_told(self, y):
         step = self.rows.step
         words = "each row is " + ("one cycle" if step == 1 else f"{step} cycles")
         if step > 1:
             words += ", grey where a hart waits in half of them or more"
         if self.unmarked:
             words += "; too many to be marked: " + ", ".join(self.unmarked)
-        self.text(LEFT, y + 20, words)
+        self.text(LEFT, y, words)
 
     def box(self, x, y, colour, words):
         style = f'width="14" height="12" fill="{colour}" stroke="#888"'
@@ -392,7 +407,7 @@ class Drawing:
         return x + 32 + 6 * len(words)
 
     def svg(self):
-        height = self.bottom + LEGEND_HEIGHT + 10
+        height = self.foot + 10
         head = (
             f'<svg xmlns="http://www.w3.org/2000/svg" width="{self.width}" height="{height}" '
             f'viewBox="0 0 {self.width} {height}" font-family="sans-serif">\n'

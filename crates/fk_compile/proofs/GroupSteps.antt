@@ -1,5 +1,5 @@
--- Members of a group in lockstep do one operation in a round, so what they alone touch takes one step.
-use Rattle.std.proofs.Common.{◌≡◌, ℕ, zero, suc, ◌&&◌, true, List, slice_get, Option, Some, None, refl, sym, ap, ◌∙◌}
+-- Members of a group in lockstep come to one operation in a round, so what they alone touch takes one step.
+use Rattle.std.proofs.Common.{◌≡◌, ℕ, zero, suc, ◌≤◌, ◌&&◌, true, List, slice_get, Option, Some, None, refl, sym, ap, ◌∙◌}
 use Rattle.std.specs.Prelude.{slice_index, is_none}
 use Rattle.std.proofs.lemmas.Bool.{and_parts}
 use Rattle.fk_tree.specs.Tree.{kind}
@@ -13,11 +13,18 @@ use Rattle.fk_meaning_operation.specs.declared.kinds.Class.TheVariants as class
 use Rattle.fk_meaning_store.specs.declared.request.Request.{Request}
 use Rattle.fk_meaning.specs.Processor.{Setting}
 use Rattle.fk_meaning.specs.Round.{Step, Runner, State, Round, Acting, taking, do_local, local_phase, after_locals, begin, begin_all, asking, is_allowed, is_possible, result}
-use Rattle.fk_meaning.specs.Schedule.{run}
+use Rattle.fk_meaning.specs.Schedule.{Schedule, run, IsLawful}
+use Rattle.fk_meaning.specs.Next.{Work}
 use Rattle.fk_meaning.specs.Program.{next_in, main_work, program_opening}
 use Rattle.fk_meaning.specs.Touch.{operation_due, touch_of, Touches, IsGroupStep}
 use Rattle.fk_meaning.proofs.GroupSteps.{reads, writes, combines}
+use Rattle.fk_syntax.specs.declared.facts.Facts.{Facts}
+use Rattle.fk_syntax.specs.Program.{ProgramTree}
+use Rattle.fk_lex.specs.Reading.{Spelled, Tokens}
+use Rattle.fk_parse.specs.Parses.{SpellsProgram}
 use Rattle.fk_layout.specs.Layout.{tables_by}
+use Rattle.fk_layout.specs.Refusal.{Fits}
+use Rattle.fk_check_laws.specs.Correct.{IsCorrect}
 use Rattle.fk_parse_laws.specs.Trim.{TextsAreTrim}
 use Rattle.fk_lower_names.specs.Proper.{TextsAreProper}
 use Rattle.fk_check_laws.specs.Valid.{may_call}
@@ -28,9 +35,10 @@ use Rattle.fk_lockstep.proofs.Rounds.{begin_at, map_at}
 use Rattle.fk_lockstep.proofs.Round.{first_is, Ordered, Acts, acts, one_count}
 use Rattle.fk_lockstep.proofs.ProgramRuns.{Good, grouped_at, member_is, good_run, good_start}
 use Rattle.fk_lockstep_structure.specs.Ahead.{all_outs}
+use Rattle.fk_lockstep_structure.specs.InPlace.{IsInPlace}
 use Rattle.fk_lockstep_structure.specs.Pending.{fork_counts}
 use Rattle.fk_lockstep_structure.proofs.Programs.{programs_follow, gives_of, none_pending, programs_are_counted}
-use Rattle.fk_compile.specs.GroupSteps.{TouchAlone, StepAsOne, TextsStepAsOne}
+use Rattle.fk_compile.specs.GroupSteps.{ActAsOne, TouchAlone, StepAsOne, TextsActAsOne, TextsStepAsOne}
 use Rattle.fk_compile.proofs.OneProgram.{valid, laid_out}
 
 none_of : {A : Type 0} (a : Option A) → is_none a ≡ true → a ≡ None
@@ -107,6 +115,17 @@ module _ {W : Type 0} (next : W → Option (Step W)) (outs : W → List W) (coun
           ∙ ap (λ (c : ℕ). due_of c (good.here n)) (one_count next outs counts set round s p good.here good.behind good.inv ordered possible n locked g h first second in_g in_h)
           ∙ sym (due_is g a in_g at_g first)
 
+      pub acts_as_one : (g h : ℕ) (a b : Acting W) → Has s.tree n g → Has s.tree n h → slice_get (asking next set round s.runners) g ≡ Some a
+          → slice_get (asking next set round s.runners) h ≡ Some b → ActAsOne next set round s g h a b
+      acts_as_one g h a b in_g in_h at_g at_h =
+          let within = good.inv.sound.within in
+          let first : ActsHere g = acts next outs counts set round s p good.here good.behind good.inv ordered possible g (within n g in_g) in
+          let second : ActsHere h = acts next outs counts set round s p good.here good.behind good.inv ordered possible h (within n h in_h) in
+          record {
+            counts = first.counted ∙ ap Some (sym (one_count next outs counts set round s p good.here good.behind good.inv ordered possible n locked g h first second in_g in_h)) ∙ sym second.counted;
+            operation = sym (same_due g h a b in_g in_h at_g at_h);
+          }
+
       -- who touches a word stands at a read, a write or a multiprefix
       module _ (x : ℕ) (alone : TouchAlone next set round s n x) (h : ℕ) (q : Request) (touched : Touches next set round s x h q) where
         is_step : (op : Operation) → operation_due touched.0.due ≡ Some op → IsGroupStep next set round s n x op
@@ -133,20 +152,47 @@ module _ {W : Type 0} (next : W → Option (Step W)) (outs : W → List W) (coun
 
 -- ---- texts
 
+module _ (trim : TextsAreTrim) (proper : TextsAreProper) (source : List ℕ) (tokens : List Spelled) (program : ProgramTree) (facts : Facts) (spelled : Tokens source tokens)
+    (spells : SpellsProgram tokens program) (correct : IsCorrect program facts) (fits : Fits (tables_by program facts) program.items) where
+  placed : IsInPlace (tables_by program facts) program (may_call program)
+  placed = valid_programs_are_in_place program facts (valid program facts (laid_out trim proper source tokens program facts spelled spells correct fits))
+
+  abbrev next_of : Work → Option (Step Work)
+  next_of = next_in (tables_by program facts) program
+
+  abbrev counts_of : Counts Work
+  counts_of = fork_counts (gives_of (tables_by program facts) program (may_call program) placed)
+
+  not_faulted : (set : Setting) (round : Round) (s : State Work) → is_possible next_of set round s ≡ true → s.fault ≡ None
+  not_faulted set round s is =
+      none_of s.fault
+      (and_parts (is_none s.fault) (is_allowed next_of set round s) (and_parts (is_none s.fault && is_allowed next_of set round s) (is_none (result next_of set round s).fault) is).0).0
+
+  -- what holds of a run after a lawful schedule
+  good_of : (set : Setting) (schedule : Schedule) (words firsts input : List ℕ) (processors : ℕ) → 1 ≤ processors
+      → let first = program_opening (tables_by program facts) program words firsts input processors in
+      IsLawful next_of set schedule first → (round : Round) → is_possible next_of set round (run next_of set schedule first) ≡ true
+      → Good next_of all_outs counts_of processors (run next_of set schedule first)
+  good_of set schedule words firsts input processors some lawful round possible =
+      let tables = tables_by program facts in
+      let first = program_opening tables program words firsts input processors in
+      let good =
+      good_start next_of all_outs counts_of (main_work tables program) (programs_follow tables program (may_call program) placed) (none_pending tables program (may_call program) placed)
+      (programs_are_counted tables program (may_call program) placed) processors words input (slice_index firsts) some in
+      good_run next_of all_outs counts_of set schedule processors first good lawful.possible (not_faulted set round (run next_of set schedule first) possible)
+
+pub texts_act_as_one : TextsAreTrim → TextsAreProper → TextsActAsOne
+texts_act_as_one trim proper source tokens program facts spelled spells correct fits set schedule words firsts input processors some lawful round possible n g h a b are =
+    let next = next_in (tables_by program facts) program in
+    let counts = counts_of trim proper source tokens program facts spelled spells correct fits in
+    let s = run next set schedule (program_opening (tables_by program facts) program words firsts input processors) in
+    let good = good_of trim proper source tokens program facts spelled spells correct fits set schedule words firsts input processors some lawful round possible in
+    acts_as_one next all_outs counts set round s processors good possible n are.lockstep g h a b are.first are.second are.first_is are.second_is
+
 pub texts_step_as_one : TextsAreTrim → TextsAreProper → TextsStepAsOne
 texts_step_as_one trim proper source tokens program facts spelled spells correct fits set schedule words firsts input processors some lawful round possible n x alone h q touched =
-    let tables = tables_by program facts in
-    let next = next_in tables program in
-    let placed = valid_programs_are_in_place program facts (valid program facts (laid_out trim proper source tokens program facts spelled spells correct fits)) in
-    let counts = fork_counts (gives_of tables program (may_call program) placed) in
-    let opening = program_opening tables program words firsts input processors in
-    let good =
-    good_start next all_outs counts (main_work tables program) (programs_follow tables program (may_call program) placed) (none_pending tables program (may_call program) placed)
-    (programs_are_counted tables program (may_call program) placed) processors words input (slice_index firsts) some in
-    let s = run next set schedule opening in
-    steps_as_one next all_outs counts set round s processors (good_run next all_outs counts set schedule processors opening good lawful.possible (running next set round s possible)) possible
-    n alone.lockstep x alone h q touched
-  where
-    running : {W : Type 0} (next : W → Option (Step W)) (set' : Setting) (round' : Round) (s : State W) → is_possible next set' round' s ≡ true → s.fault ≡ None
-    running next set' round' s is =
-        none_of s.fault (and_parts (is_none s.fault) (is_allowed next set' round' s) (and_parts (is_none s.fault && is_allowed next set' round' s) (is_none (result next set' round' s).fault) is).0).0
+    let next = next_in (tables_by program facts) program in
+    let counts = counts_of trim proper source tokens program facts spelled spells correct fits in
+    let s = run next set schedule (program_opening (tables_by program facts) program words firsts input processors) in
+    let good = good_of trim proper source tokens program facts spelled spells correct fits set schedule words firsts input processors some lawful round possible in
+    steps_as_one next all_outs counts set round s processors good possible n alone.lockstep x alone h q touched

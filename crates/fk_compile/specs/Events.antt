@@ -1,4 +1,4 @@
--- The commits of an image tell the events of a text's operations.
+-- The commit table of an image tells the events of a text's operations.
 use Rattle.std.specs.Prelude.{ℕ, List}
 use Rattle.fk_syntax.specs.declared.facts.Facts.{Facts}
 use Rattle.fk_syntax.specs.Program.{ProgramTree}
@@ -28,7 +28,7 @@ pub record TellsEventsOf (program : ProgramTree) (facts : Facts) (image : Image)
   pub code : HasWholeCode core kept saved image bound places (firsts_by program facts) main
   pub events : TellEvents core image bound places
 
--- Each entry of the image's commit table has the event of the text's operation at its place.
+-- The text keeps all rules, and the image's commit table tells the events of its operations.
 pub record TellsEvents (source : List ℕ) (image : Image) : Type 0 where
   pub program : ProgramTree
   pub facts : Facts

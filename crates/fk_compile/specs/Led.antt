@@ -8,7 +8,8 @@ use Rattle.fk_lockstep_structure.specs.InPlace.{IsInPlace}
 use Rattle.fk_lockstep_structure.specs.Inner.{FunctionsInner}
 use Rattle.fk_lockstep_tree.specs.Led.{AreLed}
 
--- It leads each processor from place to place, if only groups call functions with a frame.
+-- The code of a program in place leads each processor from place to place, if only groups call
+-- functions with a frame.
 abbrev pub ProgramsAreLed : Type 0
 ProgramsAreLed =
     (tables : Tables) (program : ProgramTree) (may_call : (in_group : Bool) → (function : ℕ) → Bool)

@@ -26,15 +26,16 @@ pub struct Compiled<'a> {
     pub rows: Vec<GlobalRow<'a>>,
 }
 
-/// The image of a text, and its shared variables of file scope. Every run of the image is a run of
-/// the text's program by a lawful schedule: it prints the same bytes, and shared data and its status
-/// are the same, a fault at a site of the text included. It never traps. This holds of runs of up to
-/// 2^32 - 1 cycles, with 1 to 1,024 harts and an input of at most 65,536 words, which with the
-/// globals are at most 524,288. Each entry of the image's commit table tells the event of the
-/// operation at its place, as a trace has it.
+/// The image of a text, and its shared variables of file scope. Each run of the image is a run of
+/// the text's program by a lawful schedule: it prints the same bytes, and shared data and its
+/// status are the same, a fault at a site of the text included. It never traps. This holds of runs
+/// of up to 2^32 - 1 cycles, with 1 to 1,024 harts and an input of at most 65,536 words, which with
+/// the globals are at most 524,288. Each entry of the commit table has the event of the operation
+/// whose code its address is in.
 ///
 /// # Errors
-/// Those of `built_text`, and of a text that keeps all rules and has a layout `Memory` alone.
+/// Those of `built_text`. A text that keeps all rules and has a layout is refused only for want of
+/// memory.
 pub fn compile<'a>(alloc: Global, source: &'a [u8]) -> Result<Compiled<'a>, Refusal>
     ensures faithful { IfOk result (λ compiled. IsFaithful source.now compiled.image) }
     ensures events { IfOk result (λ compiled. TellsEvents source.now compiled.image) }

@@ -4,7 +4,7 @@ ghost use Rattle.fk_compile.specs.Led.{ProgramsAreLed};
 ghost use Rattle.fk_compile.specs.OneProgram.{AskedEvaluates, TypedEvaluates, ForksGiveValues};
 ghost use Rattle.fk_compile.specs.OneProgram.{CorrectProgramsHaveOneProgram, TextsHaveOneProgram};
 ghost use Rattle.fk_compile.specs.OneProgram.{TextsHaveOneSpace};
-ghost use Rattle.fk_compile.specs.GroupSteps.{TextsStepAsOne};
+ghost use Rattle.fk_compile.specs.GroupSteps.{TextsActAsOne, TextsStepAsOne};
 ghost use Rattle.fk_compile.specs.Trees.{SitesAreOwn, ProgramsStayInTrees, ListsAreOfTree};
 ghost use Rattle.fk_compile.specs.ListLaws.{StraightHasNoTarget, ListsHaveBlocks};
 ghost use Rattle.fk_compile.specs.ListLaws.{StepsFindValues, GroupedListsAreGenerable};
@@ -63,6 +63,16 @@ pub fn texts_have_one_space()
     texts_are_proper();
 }
 
+/// In the program that a text spells, the members of a group in lockstep do equally many
+/// operations in a round without a fault. They come to the same request, to the same step of the
+/// tree, or to none.
+pub fn texts_act_as_one()
+    ensures { TextsActAsOne }
+{
+    texts_are_trim();
+    texts_are_proper();
+}
+
 /// In the program that a text spells, in a round without a fault in which the members of one group
 /// in lockstep alone touch a word, all who touch it do so by one operation. Reads answer the former
 /// word, writes leave the value of the highest writer, and each multiprefix answers the former word
@@ -79,10 +89,10 @@ pub fn sites_are_own()
     ensures { SitesAreOwn }
 {}
 
-/// In every run of the list of a program that keeps all rules and has a layout, each processor is at
-/// one node of the tree of groups, as its operations and its levels tell, and the members of a group
-/// in lockstep are at one index of the list and have one space. This holds after every schedule of
-/// possible rounds in which each processor does one operation at most.
+/// In every run of the list of a program that keeps all rules and has a layout, each processor is
+/// at one node of the tree of groups, as its operations and its levels tell, and the members of a
+/// group in lockstep are at one index of the list and have one space. This holds after every
+/// schedule of possible rounds in which each processor does one operation at most.
 pub fn programs_stay_in_trees()
     ensures { ProgramsStayInTrees }
 {}
@@ -117,8 +127,8 @@ pub fn grouped_lists_are_generable()
 {}
 
 /// The flat list of a program that keeps all rules and has a layout, with the depths and sites of
-/// its text and the levels that are found for it, keeps its processors in the tree of groups, as the
-/// laws of machines require.
+/// its text and the levels that are found for it, keeps its processors in the tree of groups, as
+/// the laws of machines require.
 pub fn lists_are_of_tree()
     ensures { ListsAreOfTree }
 {}

@@ -66,12 +66,13 @@ fn lookup_of<'a>(alloc: Global, text: &Checked<'a>, layout: &Layout<'a>) -> Resu
 /// or `WideNumber` for one that has no tokens, by the fault at the least place; `Unexpected`,
 /// `EndOfText` or `Nesting` for one whose tokens have no tree by the grammar of Fork95, by the
 /// first token that fits nowhere, by the end, or by the first token that opens level 129; `Rule`
-/// for one that breaks a rule of the language, by the first rule. One that keeps all rules is
-/// refused by the first of these: `TooManySites`, with their number, if it has more than 16,000
-/// operations; `FrameTooLarge`, with the name of the first such function and its words, if a
-/// private frame has more than 64 words; `GlobalsTooLarge`, with their number, if its shared
-/// variables of file scope have more than 524,288 words. `Memory` if there isn't enough memory,
-/// which no clause can say.
+/// for one that breaks a rule of the language, by the first rule.
+///
+/// A text that keeps all rules is refused by the first of these: `TooManySites`, with their number,
+/// if it has more than 16,000 operations; `FrameTooLarge`, with the name of the first such function
+/// and its words, if a private frame has more than 64 words; `GlobalsTooLarge`, with their number,
+/// if its shared variables of file scope have more than 524,288 words. `Memory` if there isn't
+/// enough memory, which no clause can say.
 pub fn built_text<'a>(alloc: Global, source: &'a [u8]) -> Result<Built<'a>, Refusal>
     ensures checked { IfOk result (λ text. IsChecked source.now (program_of text.tree) text.facts) }
     ensures laid { IfOk result (λ text. IsLayout (program_of text.tree) text.facts text.layout) }

@@ -21,8 +21,8 @@ use Rattle.fk_lockstep_frames.specs.Nests.{nesting, levels_of, forks_of}
 use Rattle.fk_lockstep_frames.specs.Lists.{HasLocalFrames}
 use Rattle.fk_lockstep_structure.specs.Placed.{Who, is_main, Placed}
 
--- Whether the code in a choice is in the only part that a split opened, if the choice is in one or
--- not.
+-- Whether the branches of a choice are in a part of a split with one body, given whether the choice
+-- itself is.
 abbrev pub under : Operation → (outside : Bool) → Bool
 under (Split IfElse) b = false
 under (Split by) b = true

@@ -1,5 +1,6 @@
--- How the group around each index of a flat list was left, where a `fork` divided it: its members
--- have taken a frame of so many words in the part around, and give it back at the end of theirs.
+-- For each index of a flat list, whether a `fork` divided the group around the part there, and how
+-- many words the frame of that group has. The end of the part needs them to find where the frames
+-- of that group end.
 use Rattle.std.specs.Prelude.{ℕ, zero, suc, ◌==◌, Bool, false, List, [], ◌∷◌, map, length}
 use Rattle.std.specs.Prelude.{slice_get, Option, Some, None, if◌then◌else◌}
 use Rattle.fk_meaning_operation.specs.declared.operation.SplitKind.{SplitKind}
@@ -16,7 +17,8 @@ pub record OpenPart : Type 0 where
   pub fork : Option ℕ
   pub words : ℕ
 
--- The open parts at an operation, the innermost first, and how many words its frame has.
+-- The open parts at an operation, the innermost first, and how many words the innermost one's frame
+-- has.
 pub record Parts : Type 0 where
   pub parts : List OpenPart
   pub words : ℕ
@@ -33,12 +35,13 @@ abbrev pub come_to : Option Operation → Parts → Parts
 come_to (Some Resume) parts = closed parts.parts
 come_to operation parts = parts
 
--- How the group around the innermost part was left.
+-- The words of the frame of the group around the innermost part, if a `fork` divided that group.
 abbrev pub fork_of : List OpenPart → Option ℕ
 fork_of [] = None
 fork_of (part ∷ held) = part.fork
 
--- How the group at a level was left. Level 0 is the outermost.
+-- The words of the frame of the group at a level, if a `fork` divided that group. Level 0 is the
+-- outermost.
 abbrev pub fork_at : List OpenPart → (level : ℕ) → Option ℕ
 fork_at [] level = None
 fork_at (part ∷ held) level = if length held == level then part.fork else fork_at held level
@@ -77,7 +80,7 @@ open_from parts opening (op ∷ ops) =
 abbrev pub open_parts : List CoreOp → List (List OpenPart)
 open_parts ops = open_from no_part false ops
 
--- At each index, how the group around the innermost part was left.
+-- For each index, whether a `fork` made the innermost part, as `fork_of` tells.
 abbrev pub forks : List CoreOp → List (Option ℕ)
 forks ops = map fork_of (open_parts ops)
 
@@ -85,6 +88,6 @@ abbrev pub fork_in : Option (List OpenPart) → (level : ℕ) → Option ℕ
 fork_in None level = None
 fork_in (Some held) level = fork_at held level
 
--- At an index, how the group at a level was left.
+-- Whether a `fork` left a level at an index, as `fork_at` tells.
 abbrev pub level_forks : List CoreOp → (index level : ℕ) → Option ℕ
 level_forks ops index level = fork_in (slice_get (open_parts ops) index) level

@@ -13,7 +13,7 @@ abbrev pub behind_in : List Levels → (index : ℕ) → ℕ
 behind_in saved index = (levels_in saved index).behind
 
 -- The levels of a list: as many as parts are open, after the fewest words that are above all words
--- that their calls name; and how the last of them was left.
+-- that their calls name; and whether a `fork` left the last of them.
 pub record AreLevels (core : List CoreOp) (saved : List Levels) : Type 0 where
   pub long : length saved ≡ length core
   pub count : map (λ (l : Levels). l.count) saved ≡ counts core

@@ -1,4 +1,4 @@
--- What the open parts are that a pass keeps: the innermost is the last one of them.
+-- The open parts that a pass keeps, of which the innermost is the last.
 use Rattle.std.specs.Prelude.{map, reverse}
 use Rattle.fk_core_levels.specs.declared.open.Open.{Open}
 use Rattle.fk_core_levels.specs.declared.open.OpenParts.{OpenParts}

@@ -1,4 +1,4 @@
-//! The parts that are open in a list, and how their groups were left.
+//! The parts that are open at an operation of a list, and which of them are parts of a `fork`.
 
 ghost use Rattle.std.specs.Prelude.{◌≡◌, OnOk};
 ghost use Rattle.fk_core.specs.Numbers.{operation_of};
@@ -21,6 +21,7 @@ pub(crate) struct Open {
 /// The open parts at an operation.
 #[derive(Drop)]
 pub(crate) struct OpenParts {
+    /// The parts, the innermost last.
     parts: Vec<Open>,
     /// How many words the frame of the innermost part has.
     words: u32,
@@ -49,7 +50,8 @@ impl OpenParts {
         }
     }
 
-    /// How a `fork` left the group around the innermost part.
+    /// Whether a `fork` divided the group around the innermost part, and how many words the frame
+    /// of that group has.
     pub(crate) fn fork(&self) -> Option<u32>
         ensures { result ≡ f.fork_of (parts_of self.now).parts }
     {
@@ -94,7 +96,7 @@ impl OpenParts {
     }
 }
 
-// How a split leaves a group with a frame of so many words.
+// The words of a group's frame, if a `fork` divides the group.
 fn left_by(by: SplitKind, words: u32) -> Option<u32>
     ensures { result ≡ f.left_by by words }
 {

@@ -18,6 +18,7 @@ fn in_call(opening: bool, parts: u32) -> u32
     if opening { 0 } else { parts }
 }
 
+// In the opening of a call no part is open, and so none of a `fork`.
 fn fork_in_call(opening: bool, fork: Option<u32>) -> Option<u32>
     ensures { result ≡ (if opening then None else fork) }
 {

@@ -66,7 +66,7 @@ module _ (core : List CoreOp) (image : Image) (places : Places) where
       → class_of operation ≡ Local → p.runner.left.at ≡ i → part core setting 1 s p ≡ Passes s (local_doing setting i op operation p)
   local_part setting i op operation s p stands kind e =
       let step = step_of core i op operation p.runner.left.callers in
-      operations_are_next core i op operation setting s p stands e
+      operations_are_next core i op operation setting 0 s p stands e
       ∙ ap (λ c. let b = do_local (next core) setting (taking p.runner (Some step)) c step in phase_of core setting s p b b.due) kind
 
   -- one that commits with its first instruction, and then runs privately to where its processor goes on
@@ -76,7 +76,7 @@ module _ (core : List CoreOp) (image : Image) (places : Places) where
       → (behind : ℕ) → behind ≤ most_behind → (h' : Hart)
       → RunsPrivately image (later t) (number_of p) behind (after (told_of t (number_of p)) first r h) h'
       → StandsAt places (owner_of (local_doing setting i op operation p)) h'
-      → (Also : Hart → Type 0) → Also h' → DoesAnd core image places setting t p h 0 behind Also
+      → (Also : Hart → Type 0) → Also h' → DoesAnd core image places setting t 1 p h 0 behind Also
   local_does_by setting t i op operation p h stands kind en first r at can behind few h' runs stands' Also also =
       let number = number_of p in
       let pc : h.pc ≡ 4 * places.block i = en.at.at ∙ ap (λ j. 4 * places.block j) en.index in
@@ -121,11 +121,11 @@ module _ (core : List CoreOp) (image : Image) (places : Places) where
   -- one whose lines run straight on to the next block
   pub local_does : (bound : ℕ → ℕ) (setting : Setting) (t : MachineSetting) (i : ℕ) (op : CoreOp) (operation : Operation) (p : Owner) (h : Hart)
       → OpAt core i op operation → class_of operation ≡ Local → Enters core image places setting t i op operation p h
-      → (first : Instruction) (r : Reached) (rest : Quiets) → HasBlock image bound places i (commits first ∷ quiet_lines rest)
+      → (first : Instruction) (r : Reached) (rest : Quiets) → HasBlock image bound places i (commits 1 first ∷ quiet_lines rest)
       → length rest ≤ most_behind → CanWalk (told_of t (number_of p)) ((first, r) ∷ rest) h
       → (follows core operation i op.target p.runner.left.callers (is_onward operation p.runner.has)).at ≡ suc i
       → StandsFor places (owner_of (local_doing setting i op operation p)) (walk (told_of t (number_of p)) ((first, r) ∷ rest) h)
-      → (Also : Hart → Type 0) → Also (walk (told_of t (number_of p)) ((first, r) ∷ rest) h) → DoesAnd core image places setting t p h 0 (length rest) Also
+      → (Also : Hart → Type 0) → Also (walk (told_of t (number_of p)) ((first, r) ∷ rest) h) → DoesAnd core image places setting t 1 p h 0 (length rest) Also
   local_does bound setting t i op operation p h stands kind en first r rest has few can on stands' Also also =
       let number = number_of p in
       let told = told_of t number in
@@ -157,7 +157,7 @@ module _ (core : List CoreOp) (image : Image) (places : Places) where
   asks setting i op operation s p stands kind other e =
       let step = step_of core i op operation p.runner.left.callers in
       let a = taking p.runner (Some step) in
-      operations_are_next core i op operation setting s p stands e
+      operations_are_next core i op operation setting 0 s p stands e
       ∙ ap (λ c. let b = do_local (next core) setting a c step in phase_of core setting s p b b.due) kind
       ∙ ap (λ b. if b then hires (heap_start (setting.globals + setting.inputs)) s p a step else as_part s.asked p (request_phase (found s p.heap) a (Some step))) other
       ∙ ap (λ c. as_part s.asked p (do_request (found s p.heap) a c step)) kind
@@ -170,7 +170,7 @@ module _ (core : List CoreOp) (image : Image) (places : Places) where
   hired_part setting i op operation s p stands kind hire e =
       let step = step_of core i op operation p.runner.left.callers in
       let a = taking p.runner (Some step) in
-      operations_are_next core i op operation setting s p stands e
+      operations_are_next core i op operation setting 0 s p stands e
       ∙ ap (λ c. let b = do_local (next core) setting a c step in phase_of core setting s p b b.due) kind
       ∙ ap (λ b. if b then hires (heap_start (setting.globals + setting.inputs)) s p a step else as_part s.asked p (request_phase (found s p.heap) a (Some step))) hire
 
@@ -222,7 +222,7 @@ module _ (core : List CoreOp) (image : Image) (places : Places) where
       → (before behind : ℕ) → before ≤ most_before → behind ≤ most_behind → (h1 : Hart) → RunsPrivately image t (number_of p) before h h1
       → (k : ℕ) (c : Instruction) → IsAt image k c 1 → h1.pc ≡ 4 * k → h1.ended ≡ false
       → (Also : Hart → Type 0) → ((s : Commons) → Answers setting (in_cycles before t) i op operation p c behind h1 Also s)
-      → DoesAnd core image places setting t p h before behind Also
+      → DoesAnd core image places setting t 1 p h before behind Also
   request_does_by setting t i op operation p h stands kind other en before behind few_before few_behind h1 runs k c at pc live Also answers =
       let number = number_of p in
       let t1 = in_cycles before t in
@@ -260,8 +260,8 @@ module _ (core : List CoreOp) (image : Image) (places : Places) where
 
   -- ---- without what holds more
 
-  pub does_of : (setting : Setting) (t : MachineSetting) (p : Owner) (h : Hart) (before behind : ℕ) (Also : Hart → Type 0) → DoesAnd core image places setting t p h before behind Also
-      → Does core image places setting t p h
+  pub does_of : (setting : Setting) (t : MachineSetting) (p : Owner) (h : Hart) (before behind : ℕ) (Also : Hart → Type 0) → DoesAnd core image places setting t 1 p h before behind Also
+      → Does core image places setting t 1 p h
   does_of setting t p h before behind Also does =
       let one = does.does in
       record {

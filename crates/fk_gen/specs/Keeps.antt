@@ -43,21 +43,21 @@ pub record Keeps (places : Places) (waiting values : ℕ) (written : (word : ℕ
       → h'.local j ≡ h.local j
 
 module _ (core : List CoreOp) (image : Image) (places : Places) where
-  -- The hart commits after `before` private instructions, runs `behind` more, and then `Also`
-  -- holds.
-  pub record DoesAnd (setting : Setting) (t : MachineSetting) (p : Owner) (h : Hart)
+  -- The hart commits with this count after `before` private instructions, runs `behind` more, and
+  -- then `Also` holds.
+  pub record DoesAnd (setting : Setting) (t : MachineSetting) (count : ℕ) (p : Owner) (h : Hart)
       (before behind : ℕ) (Also : Hart → Type 0) : Type 0 where
     pub few_before : before ≤ most_before
     pub few_behind : behind ≤ most_behind
-    pub does : OneDoes (core_source core setting) image t 1 before behind (member_of p h) p
+    pub does : OneDoes (core_source core setting) image t count before behind (member_of p h) p
         (λ h' d. HasDone core image places d h' × Also h')
 
   -- The block does an operation that makes no call, and ends none. The number of cycles after its
   -- commit depends on the branch that it takes.
-  abbrev pub BlockDoesBy : (before : ℕ) → (behind : (onward : Bool) → ℕ) → (i : ℕ) → CoreOp
-      → Operation → Type 0
-  BlockDoesBy before behind i op operation =
+  abbrev pub BlockDoesBy : (count before : ℕ) → (behind : (onward : Bool) → ℕ) → (i : ℕ)
+      → CoreOp → Operation → Type 0
+  BlockDoesBy count before behind i op operation =
       (setting : Setting) (t : MachineSetting) (p : Owner) (h : Hart)
       → Enters core image places setting t i op operation p h
-      → DoesAnd setting t p h before (behind (is_onward operation p.runner.has))
+      → DoesAnd setting t count p h before (behind (is_onward operation p.runner.has))
       (Keeps places (length p.runner.has.callers) (peak operation op.depth) (writes operation) h)

@@ -18,9 +18,10 @@ use Rattle.fk_gen.specs.Registers.{t0}
 abbrev pub quiet : Instruction → MarkedLine
 quiet i = plain (straight i)
 
--- The line of an instruction that does an operation: its commit counts 1, and is no event.
-abbrev pub commits : Instruction → MarkedLine
-commits i = committing (straight i) 1
+-- The line of an instruction that does so many operations: its commit has their count, and is no
+-- event.
+abbrev pub commits : (count : ℕ) → Instruction → MarkedLine
+commits count i = committing (straight i) count
 
 -- The number of an event in a commit table, 0 for none.
 abbrev pub number_in : Option Event → ℕ
@@ -31,10 +32,10 @@ number_in (Some event) = event_number event
 abbrev pub commits_as : Event → Instruction → MarkedLine
 commits_as event i = committing (straight i) (1 + 256 * event_number event)
 
--- Straight lines of which the first does the operation.
-abbrev pub first_commits : List Instruction → List MarkedLine
-first_commits [] = []
-first_commits (i ∷ is) = commits i ∷ map quiet is
+-- Straight lines of which the first does so many operations.
+abbrev pub first_commits : (count : ℕ) → List Instruction → List MarkedLine
+first_commits count [] = []
+first_commits count (i ∷ is) = commits count i ∷ map quiet is
 
 -- The line of a jump to a label, which does no operation.
 abbrev pub goes_to : Instruction → (label : ℕ) → MarkedLine

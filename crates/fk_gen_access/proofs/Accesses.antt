@@ -39,7 +39,7 @@ use Rattle.fk_gen.proofs.ValueLines.{place_word}
 
 module _ (core : List CoreOp) (image : Image) (places : Places) (i : ℕ) (op : CoreOp) (setting : Setting) (t : MachineSetting) (p : Owner) (h : Hart) where
   pub read_does : (bound : ℕ → ℕ) → OpAt core i op Read → Enters core image places setting t i op Read p h → Fits core places.frames i op Read
-      → HasBlock image bound places i (lines (read_block op.depth)) → DoesAnd core image places setting t p h 1 1 (Keeps places (length p.runner.has.callers) op.depth nothing h)
+      → HasBlock image bound places i (lines (read_block op.depth)) → DoesAnd core image places setting t 1 p h 1 1 (Keeps places (length p.runner.has.callers) op.depth nothing h)
   read_does bound op_at en fits has =
       let b = read_block op.depth in
       let committing = walk_straight (told_of t (number_of p)) b.before h in
@@ -184,7 +184,7 @@ module _ (core : List CoreOp) (image : Image) (places : Places) (i : ℕ) (op : 
       }
 
   pub write_does : (bound : ℕ → ℕ) → OpAt core i op Write → Enters core image places setting t i op Write p h → Fits core places.frames i op Write
-      → HasBlock image bound places i (lines (write_block op.depth)) → DoesAnd core image places setting t p h 2 1 (Keeps places (length p.runner.has.callers) op.depth nothing h)
+      → HasBlock image bound places i (lines (write_block op.depth)) → DoesAnd core image places setting t 1 p h 2 1 (Keeps places (length p.runner.has.callers) op.depth nothing h)
   write_does bound op_at en fits has =
       let first = earlier_found core image places i op Write setting t p h en fits (let l = fits.values in omega arith) in
       let second = last_found core image places i op Write setting t p h en fits (let l = fits.values in omega arith) in
@@ -259,7 +259,7 @@ module _ (core : List CoreOp) (image : Image) (places : Places) (i : ℕ) (op : 
 
   pub combine_does : (by : Multiprefix) (bound : ℕ → ℕ) → OpAt core i op (Combine by) → Enters core image places setting t i op (Combine by) p h
       → Fits core places.frames i op (Combine by)
-      → HasBlock image bound places i (lines (combine_block by op.depth)) → DoesAnd core image places setting t p h 2 1 (Keeps places (length p.runner.has.callers) op.depth nothing h)
+      → HasBlock image bound places i (lines (combine_block by op.depth)) → DoesAnd core image places setting t 1 p h 2 1 (Keeps places (length p.runner.has.callers) op.depth nothing h)
   combine_does by bound op_at en fits has =
       let first = earlier_found core image places i op (Combine by) setting t p h en fits (let l = fits.values in omega arith) in
       let second = last_found core image places i op (Combine by) setting t p h en fits (let l = fits.values in omega arith) in

@@ -30,7 +30,7 @@ use Rattle.fk_gen_access.proofs.Walk.{quiets, quiets_lines, quiets_length, walk_
 
 length_of : (b : Straight) → length (lines b) ≡ length (map quiet b.before) + suc (length b.behind)
 length_of b =
-    length-append (map quiet b.before) (commits b.commit ∷ map quiet b.behind)
+    length-append (map quiet b.before) (commits 1 b.commit ∷ map quiet b.behind)
     ∙ ap (λ n. length (map quiet b.before) + suc n) (length-map b.behind quiet)
 
 module _ (core : List CoreOp) (image : Image) (places : Places) (i : ℕ) (op : CoreOp) (operation : Operation) (setting : Setting) (p : Owner) where
@@ -72,13 +72,13 @@ module _ (core : List CoreOp) (image : Image) (places : Places) (i : ℕ) (op : 
       → HasBlock image bound places i (lines b) → length b.before ≤ most_before → length b.behind ≤ most_behind
       → CanWalkStraight (told_of t (number_of p)) b.before h
       → ((s : Commons) → Commits b h (committing_of b t h) s ⊎ Refuses b (committing_of b t h) s)
-      → DoesAnd core image places setting t p h (length b.before) (length b.behind) (KeepsMost h)
+      → DoesAnd core image places setting t 1 p h (length b.before) (length b.behind) (KeepsMost h)
   does b bound t h op_at en has few_before few_behind can each =
       let number = number_of p in
       let told = told_of t number in
       let before = quiets told b.before h in
       let committing = committing_of b t h in
-      let parts = lines_split image bound (places.block i) (map quiet b.before) (commits b.commit ∷ map quiet b.behind) has.lines in
+      let parts = lines_split image bound (places.block i) (map quiet b.before) (commits 1 b.commit ∷ map quiet b.behind) has.lines in
       let k = places.block i + length (map quiet b.before) in
       let entry : h.pc ≡ 4 * places.block i = en.at.at ∙ ap (λ j. 4 * places.block j) en.index in
       let first = walked image bound t number en.running.code before (places.block i) h
@@ -94,7 +94,7 @@ module _ (core : List CoreOp) (image : Image) (places : Places) (i : ℕ) (op : 
       let pc : committing.pc ≡ 4 * k = omega arith in
       let whole = length_of b in
       let next = has.next in
-      subst (λ n. DoesAnd core image places setting t p h n (length b.behind) (KeepsMost h)) count
+      subst (λ n. DoesAnd core image places setting t 1 p h n (length b.behind) (KeepsMost h)) count
       (record {
         few_before = omega (arith, few_before, count);
         few_behind = few_behind;
@@ -119,7 +119,7 @@ module _ (core : List CoreOp) (image : Image) (places : Places) (i : ℕ) (op : 
                     hart = c.hart;
                     store = c.store;
                     done = idle c.owner;
-                    part = operations_are_next core i op operation setting s p op_at en.index ∙ c.part;
+                    part = operations_are_next core i op operation setting 0 s p op_at en.index ∙ c.part;
                     goes = λ earlier sh shows.
                         let g = c.goes t1 earlier sh shows in
                         (g.0, step_at image k 1 b.commit at t1 holds number committing sh pc ∙ g.1, g.2, λ j e. ap (λ m. m j) g.3);
@@ -131,7 +131,7 @@ module _ (core : List CoreOp) (image : Image) (places : Places) (i : ℕ) (op : 
                   })
               | inr r ↦ inr (record {
                 site = r.site;
-                part = operations_are_next core i op operation setting s p op_at en.index ∙ r.part;
+                part = operations_are_next core i op operation setting 0 s p op_at en.index ∙ r.part;
                 stops = λ earlier sh shows. step_at image k 1 b.commit at t1 holds number committing sh pc ∙ r.stops t1 earlier sh shows;
               })
             ];

@@ -115,8 +115,8 @@ module _ (image : Image) (bound : ℕ → ℕ) (t : Setting) (number bytes back 
   abbrev answering : (count : ℕ) → Hart
   answering count = walk told (behind_code all) (committed count)
 
-  parts : LinesAt image bound base (quiet_lines before_code) × LinesAt image bound (base + 14) (commits tell ∷ end_lines all)
-  parts = lines_split image bound base (quiet_lines before_code) (commits tell ∷ end_lines all) shared.lines
+  parts : LinesAt image bound base (quiet_lines before_code) × LinesAt image bound (base + 14) (commits 1 tell ∷ end_lines all)
+  parts = lines_split image bound base (quiet_lines before_code) (commits 1 tell ∷ end_lines all) shared.lines
 
   ends : LinesAt image bound (suc (base + 14)) (quiet_lines (behind_code all)) × LinesAt image bound (suc (base + 14) + 16) (quiet return ∷ [])
   ends = lines_split image bound (suc (base + 14)) (quiet_lines (behind_code all)) (quiet return ∷ []) parts.1.1

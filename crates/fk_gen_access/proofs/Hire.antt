@@ -117,7 +117,7 @@ module _ (core : List CoreOp) (image : Image) (places : Places) (i : ℕ) (op : 
       (λ j lt. other_word h3.local word (h3.registers t0) (16384 + j) (λ e. omega arith) ∙ goes.words (16384 + j) (λ e. omega arith) ∙ stands.heap j lt)
 
   pub hire_does : (bound : ℕ → ℕ) → OpAt core i op Heap → Enters core image places setting t i op Heap p h → Fits core places.frames i op Heap
-      → HasBlock image bound places i (hire_block op.depth) → HasHeap image bound → DoesAnd core image places setting t p h 16 18 (Keeps places n op.depth nothing h)
+      → HasBlock image bound places i (hire_block op.depth) → HasHeap image bound → DoesAnd core image places setting t 1 p h 16 18 (Keeps places n op.depth nothing h)
   hire_does bound op_at en fits has shared =
       let stands = en.at.stands in
       let some = last_found core image places i op Heap setting t p h en fits (let l = fits.values in omega arith) in
@@ -183,7 +183,7 @@ module _ (core : List CoreOp) (image : Image) (places : Places) (i : ℕ) (op : 
                   hart = adds.hart s.asked;
                   store = record s { asked = value };
                   done = idle (hired s.asked);
-                  part = operations_are_next core i op Heap setting s p op_at en.index;
+                  part = operations_are_next core i op Heap setting 0 s p op_at en.index;
                   goes = λ earlier sh shows.
                       let asked : sh.control asked_word ≡ s.asked = shows.common asked_word refl in
                       let add = adds.adds sh in (

@@ -45,7 +45,7 @@ module _ (core : List CoreOp) (image : Image) (places : Places) (i : ℕ) (op : 
   took s q = Passes s (idle (record { runner = record { left = position (suc i) p.runner.left.callers; has = q }; heap = p.heap }))
 
   pub take_does : (bound : ℕ → ℕ) → OpAt core i op Take → Enters core image places setting t i op Take p h → Fits core places.frames i op Take
-      → HasBlock image bound places i (lines (take_block op.depth)) → DoesAnd core image places setting t p h 0 14 (Keeps places (length p.runner.has.callers) op.depth nothing h)
+      → HasBlock image bound places i (lines (take_block op.depth)) → DoesAnd core image places setting t 1 p h 0 14 (Keeps places (length p.runner.has.callers) op.depth nothing h)
   take_does bound op_at en fits has =
       let b = take_block op.depth in
       let stands = en.at.stands in

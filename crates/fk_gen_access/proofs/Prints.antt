@@ -49,7 +49,7 @@ print_does : (core : List CoreOp) (image : Image) (places : Places) (i : ℕ) (o
     ≡ Passes (record s { output = s.output ++ bytes (last (values p.runner.has)) }) (idle (went places p (suc i) (before 1 (values p.runner.has)) p.heap.words p.runner.has.top)))
     → ((t' : MachineSetting) (g : Hart) (sh : Shared) → g.registers device_register ≡ 0x30000000
     → perform t' (number_of p) (Sw device_register t0 device) g sh ≡ Goes (moves g) (record sh { output = sh.output ++ bytes (g.registers t0) }))
-    → DoesAnd core image places setting t p h 1 0 (Keeps places (length p.runner.has.callers) op.depth nothing h)
+    → DoesAnd core image places setting t 1 p h 1 0 (Keeps places (length p.runner.has.callers) op.depth nothing h)
 print_does core image places i op operation setting t p h device bytes bound op_at en fits some flows has part performs =
     let b = print_block device op.depth in
     let committing = walk_straight (told_of t (number_of p)) b.before h in
@@ -85,14 +85,14 @@ print_does core image places i op operation setting t p h device bytes bound op_
 
 pub print_number_does : (core : List CoreOp) (image : Image) (places : Places) (i : ℕ) (op : CoreOp) (setting : Setting) (t : MachineSetting) (p : Owner) (h : Hart) (bound : ℕ → ℕ)
     → OpAt core i op PrintNumber → Enters core image places setting t i op PrintNumber p h → Fits core places.frames i op PrintNumber
-    → HasBlock image bound places i (lines (print_block number_device op.depth)) → DoesAnd core image places setting t p h 1 0 (Keeps places (length p.runner.has.callers) op.depth nothing h)
+    → HasBlock image bound places i (lines (print_block number_device op.depth)) → DoesAnd core image places setting t 1 p h 1 0 (Keeps places (length p.runner.has.callers) op.depth nothing h)
 print_number_does core image places i op setting t p h bound op_at en fits has =
     print_does core image places i op PrintNumber setting t p h number_device signed_line bound op_at en fits (let l = fits.values in omega arith) (fits.goes_on true) has
     (λ s. refl) (λ t' g sh e. sw-out_int t' (number_of p) 26 5 0 g sh (omega arith) (ap (λ a. place_of (word_sum a 0)) e ∙ place_of-out_int))
 
 pub print_byte_does : (core : List CoreOp) (image : Image) (places : Places) (i : ℕ) (op : CoreOp) (setting : Setting) (t : MachineSetting) (p : Owner) (h : Hart) (bound : ℕ → ℕ)
     → OpAt core i op PrintByte → Enters core image places setting t i op PrintByte p h → Fits core places.frames i op PrintByte
-    → HasBlock image bound places i (lines (print_block byte_device op.depth)) → DoesAnd core image places setting t p h 1 0 (Keeps places (length p.runner.has.callers) op.depth nothing h)
+    → HasBlock image bound places i (lines (print_block byte_device op.depth)) → DoesAnd core image places setting t 1 p h 1 0 (Keeps places (length p.runner.has.callers) op.depth nothing h)
 print_byte_does core image places i op setting t p h bound op_at en fits has =
     print_does core image places i op PrintByte setting t p h byte_device (λ v. v % 256 ∷ []) bound op_at en fits (let l = fits.values in omega arith) (fits.goes_on true) has
     (λ s. refl) (λ t' g sh e. sw-out_char t' (number_of p) 26 5 4 g sh (omega arith) (ap (λ a. place_of (word_sum a 4)) e ∙ place_of-out_char))

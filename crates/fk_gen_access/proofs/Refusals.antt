@@ -59,8 +59,8 @@ abbrev straight : (short alone : Bool) (d site w : ℕ) → Quiets
 straight short alone d site w = number_quiets short site ++ masks alone d w
 
 abbrev choices : (alone : Bool) → List MarkedLine
-choices true = quiet (Beq t1 shared_register 8) ∷ commits refuse ∷ commits idle ∷ []
-choices false = quiet (Beq t2 shared_register 12) ∷ quiet (Beq t1 heap_register 12) ∷ commits refuse ∷ quiet idle ∷ commits idle ∷ []
+choices true = quiet (Beq t1 shared_register 8) ∷ commits 1 refuse ∷ commits 1 idle ∷ []
+choices false = quiet (Beq t2 shared_register 12) ∷ quiet (Beq t1 heap_register 12) ∷ commits 1 refuse ∷ quiet idle ∷ commits 1 idle ∷ []
 
 -- the register that the address with the mask of shared data comes to
 abbrev shared_test_register : (alone : Bool) → ℕ
@@ -242,7 +242,7 @@ module _ (core : List CoreOp) (image : Image) (places : Places) (i : ℕ) (op : 
 
   -- an address that may be used
   passes : (alone : Bool) → IsHere alone → (before kc : ℕ) (g : Hart) → IsChecked before kc g → IsAt image kc idle 1 → places.block (suc i) ≡ suc kc
-      → may_use alone a ≡ true → DoesAnd core image places setting t p h before 0 KeepsMost
+      → may_use alone a ≡ true → DoesAnd core image places setting t 1 p h before 0 KeepsMost
   passes alone here before kc g c at next may =
       let en = here.enters in
       let stands = en.at.stands in
@@ -280,7 +280,7 @@ module _ (core : List CoreOp) (image : Image) (places : Places) (i : ℕ) (op : 
 
   -- one that may not
   refuses : (alone : Bool) → IsHere alone → (before kc : ℕ) (g : Hart) → IsChecked before kc g → IsAt image kc refuse 1 → may_use alone a ≡ false
-      → DoesAnd core image places setting t p h before 0 KeepsMost
+      → DoesAnd core image places setting t 1 p h before 0 KeepsMost
   refuses alone here before kc g c at may =
       let few = c.few in
       let device : g.registers device_register ≡ 0x30000000 = c.same.devices ∙ here.enters.at.stands.devices in
@@ -299,7 +299,7 @@ module _ (core : List CoreOp) (image : Image) (places : Places) (i : ℕ) (op : 
   test_is x y b c r e f g = ap (λ v. v == y) e ∙ ap (λ v. b == v) f ∙ g
 
   chosen_alone : IsHere true → (bound : ℕ → ℕ) (before kb : ℕ) (g : Hart) → before ≤ 5 → IsChecked before kb g → LinesAt image bound kb (choices true) → places.block (suc i) ≡ kb + 3
-      → g.registers t1 ≡ shared_bits a → Checks true a → DoesAnd core image places setting t p h (before + 1) 0 KeepsMost
+      → g.registers t1 ≡ shared_bits a → Checks true a → DoesAnd core image places setting t 1 p h (before + 1) 0 KeepsMost
   chosen_alone here bound before kb g few c lines next test (InShared may is) =
       let cycle1 = in_cycles before t in
       let holds = holds_in_cycles image before t here.enters.running.code in
@@ -319,7 +319,7 @@ module _ (core : List CoreOp) (image : Image) (places : Places) (i : ℕ) (op : 
       refuses true here (before + 1) (suc kb) (goes_to_pc g (word_sum g.pc 4)) (branched before kb (suc kb) (word_sum g.pc 4) g c (omega arith) goes (omega arith)) lines.1.0 may
 
   chosen_any : IsHere false → (bound : ℕ → ℕ) (before kb : ℕ) (g : Hart) → before ≤ 5 → IsChecked before kb g → LinesAt image bound kb (choices false) → places.block (suc i) ≡ kb + 5
-      → g.registers t2 ≡ shared_bits a → g.registers t1 ≡ heap_bits a → Checks false a → DoesAnd core image places setting t p h (before + 1 + 1) 0 KeepsMost
+      → g.registers t2 ≡ shared_bits a → g.registers t1 ≡ heap_bits a → Checks false a → DoesAnd core image places setting t 1 p h (before + 1 + 1) 0 KeepsMost
   chosen_any here bound before kb g few c lines next test test' (InShared may is) =
       let code = here.enters.running.code in
       let holds = holds_in_cycles image before t code in
@@ -359,12 +359,12 @@ module _ (core : List CoreOp) (image : Image) (places : Places) (i : ℕ) (op : 
 
   chosen : (alone : Bool) → IsHere alone → (bound : ℕ → ℕ) (before kb : ℕ) (g : Hart) → before ≤ 5 → IsChecked before kb g → LinesAt image bound kb (choices alone)
       → places.block (suc i) ≡ kb + length (choices alone) → g.registers (shared_test_register alone) ≡ shared_bits a → (alone ≡ false → g.registers t1 ≡ heap_bits a)
-      → Checks alone a → DoesAnd core image places setting t p h (chosen_in alone before) 0 KeepsMost
+      → Checks alone a → DoesAnd core image places setting t 1 p h (chosen_in alone before) 0 KeepsMost
   chosen true here bound before kb g few c lines next test heap finds = chosen_alone here bound before kb g few c lines next test finds
   chosen false here bound before kb g few c lines next test heap finds = chosen_any here bound before kb g few c lines next test (heap refl) finds
 
   check_by : (alone short : Bool) → (high_part op.site == 0) ≡ short → IsHere alone → (bound : ℕ → ℕ) → op.site < 2 ^ 32
-      → HasBlock image bound places i (map quiet (load_by short op.site) ++ test_lines alone op.depth) → DoesAnd core image places setting t p h (length (load_by short op.site) + test_steps alone) 0 KeepsMost
+      → HasBlock image bound places i (map quiet (load_by short op.site) ++ test_lines alone op.depth) → DoesAnd core image places setting t 1 p h (length (load_by short op.site) + test_steps alone) 0 KeepsMost
   check_by alone short is here bound small has =
       let en = here.enters in
       let stands = en.at.stands in
@@ -383,7 +383,7 @@ module _ (core : List CoreOp) (image : Image) (places : Places) (i : ℕ) (op : 
       let all = length-append (quiet_lines qs) (choices alone) in
       let next = stands_at.next in
       let kb = k + length (quiet_lines qs) in
-      subst (λ steps. DoesAnd core image places setting t p h steps 0 KeepsMost) (all_steps short alone d op.site w)
+      subst (λ steps. DoesAnd core image places setting t 1 p h steps 0 KeepsMost) (all_steps short alone d op.site w)
       (chosen alone here bound (length qs) kb (walk told qs h) few
       (record {
         few = omega arith;
@@ -400,6 +400,6 @@ module _ (core : List CoreOp) (image : Image) (places : Places) (i : ℕ) (op : 
 
   pub check_does : (alone : Bool) (bound : ℕ → ℕ) → OpAt core i op (Check alone) → Enters core image places setting t i op (Check alone) p h
       → Fits core places.frames i op (Check alone) → op.site < 2 ^ 32
-      → HasBlock image bound places i (check_block alone op.depth op.site) → DoesAnd core image places setting t p h (before_commit (Check alone) op.site) 0 KeepsMost
+      → HasBlock image bound places i (check_block alone op.depth op.site) → DoesAnd core image places setting t 1 p h (before_commit (Check alone) op.site) 0 KeepsMost
   check_does alone bound op_at en fits few has =
       check_by alone (high_part op.site == 0) refl (record { at = op_at; enters = en; fits = fits }) bound few has

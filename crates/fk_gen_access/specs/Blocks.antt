@@ -31,7 +31,7 @@ pub record Straight : Type 0 where
   pub behind : List Instruction
 
 abbrev pub lines : Straight → List MarkedLine
-lines b = map quiet b.before ++ (commits b.commit ∷ map quiet b.behind)
+lines b = map quiet b.before ++ (commits 1 b.commit ∷ map quiet b.behind)
 
 -- The offsets, from the first device, of those that print a number, print a byte, and end a run at
 -- a site.
@@ -102,15 +102,15 @@ refuse = Sw device_register t0 fault_device
 abbrev pub shared_test : (depth : ℕ) → List MarkedLine
 shared_test d =
     quiet (operand t1 d) ∷ quiet (And t1 t1 shared_mask_register) ∷
-    quiet (Beq t1 shared_register 8) ∷ commits refuse ∷
-    commits idle ∷ []
+    quiet (Beq t1 shared_register 8) ∷ commits 1 refuse ∷
+    commits 1 idle ∷ []
 
 abbrev pub any_test : (depth : ℕ) → List MarkedLine
 any_test d =
     quiet (operand t1 d) ∷ quiet (And t2 t1 shared_mask_register) ∷
     quiet (And t1 t1 heap_mask_register) ∷
-    quiet (Beq t2 shared_register 12) ∷ quiet (Beq t1 heap_register 12) ∷ commits refuse
-    ∷ quiet idle ∷ commits idle ∷ []
+    quiet (Beq t2 shared_register 12) ∷ quiet (Beq t1 heap_register 12) ∷ commits 1 refuse
+    ∷ quiet idle ∷ commits 1 idle ∷ []
 
 abbrev pub test_lines : (shared_alone : Bool) → (depth : ℕ) → List MarkedLine
 test_lines true d = shared_test d

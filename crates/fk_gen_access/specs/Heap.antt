@@ -66,7 +66,7 @@ back = Jalr zero_register ra 0
 abbrev pub heap_lines : (globals : ℕ) → List MarkedLine
 heap_lines globals =
     map quiet ask
-    ++ ((map quiet add_up ++ commits tell ∷ [])
+    ++ ((map quiet add_up ++ commits 1 tell ∷ [])
     ++ (map quiet (find_end globals) ++ (map quiet give ++ quiet back ∷ [])))
 
 -- The image has the code that all blocks of `shmalloc` share, at its label.

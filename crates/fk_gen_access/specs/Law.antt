@@ -23,7 +23,7 @@ AccessBlocksDo =
     → HasBlock image bound places i (block_of (Some operation) op.depth op.site)
     → (is_hire operation ≡ true → HasHeap image bound)
     → Fits core places.frames i op operation
-    → BlockDoes core image places i op operation
+    → BlockDoes core image places 1 i op operation
 
 -- The block of an access takes this many cycles, and keeps what such a block keeps.
 abbrev pub AccessBlocksKeep : Type 0
@@ -34,5 +34,5 @@ AccessBlocksKeep =
     → HasBlock image bound places i (block_of (Some operation) op.depth op.site)
     → (is_hire operation ≡ true → HasHeap image bound)
     → Fits core places.frames i op operation
-    → BlockDoesBy core image places (before_commit operation op.site)
+    → BlockDoesBy core image places 1 (before_commit operation op.site)
     (λ onward. behind_commit operation) i op operation

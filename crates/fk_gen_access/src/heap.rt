@@ -90,7 +90,7 @@ fn emit_adding(into: &mut Assembler) -> Result<(), AllocError>
     requires room { length into.old.lines + 8 < 2 ^ 30 }
     requires free { AreFollowed into.old }
     ensures added { OnOk result
-        (into.new ≡ with_block into.old (map quiet add_up ++ commits tell ∷ [])) }
+        (into.new ≡ with_block into.old (map quiet add_up ++ commits 1 tell ∷ [])) }
 {
     emit_lines(
         into,

@@ -84,7 +84,7 @@ module _ (core : List CoreOp) (image : Image) (places : Places) (bound : ℕ →
   KeepsMost operation h' = Keeps places n (peak operation d) (writes operation) h h'
 
   abbrev pub IsDone : Operation → Type 0
-  IsDone operation = DoesAnd core image places setting t p h 0 (past_first (expression_block globals levels d operation)) (KeepsMost operation)
+  IsDone operation = DoesAnd core image places setting t 1 p h 0 (past_first (expression_block globals levels d operation)) (KeepsMost operation)
 
   -- behind its code it stands for a processor of the same level, with as many calls waiting, that it has in memory, with the
   -- same group frame
@@ -97,7 +97,7 @@ module _ (core : List CoreOp) (image : Image) (places : Places) (bound : ℕ →
 
   -- code that leaves a value in a register, which then is stored in place of the last so many
   value_does : (operation : Operation) (code : Quiets) (register dropped k v : ℕ) → Here operation
-      → first_commits (instructions_of (code ++ result_line register n k ∷ [])) ≡ expression_block globals levels d operation
+      → first_commits 1 (instructions_of (code ++ result_line register n k ∷ [])) ≡ expression_block globals levels d operation
       → length code ≤ 20
       → IsLocal core i op operation p
       → local setting operation p.runner.has ≡ with_values p.runner.has (v ∷ before dropped vs)
@@ -130,7 +130,7 @@ module _ (core : List CoreOp) (image : Image) (places : Places) (bound : ℕ →
         header = λ j lt apart. result_keeps told register n k h1 j (omega arith) ∙ ap (λ m. m j) gives.local;
         words = λ j from lt apart. result_keeps told register n k h1 j (omega arith) ∙ ap (λ m. m j) gives.local;
       } in
-      subst (λ block. DoesAnd core image places setting t p h 0 (past_first block) (KeepsMost operation)) same
+      subst (λ block. DoesAnd core image places setting t 1 p h 0 (past_first block) (KeepsMost operation)) same
       (code_does core image places bound i op operation setting t p h full (KeepsMost operation) here.at here.enters
       (subst (HasBlock image bound places i) (sym same) here.block) (omega arith) (omega arith) is_local can
       (subst (λ w. StandsFor places (record p { runner = record { left = w; has = local setting operation p.runner.has } }) (walk told full h)) (sym is_local.onward)
@@ -159,9 +159,9 @@ module _ (core : List CoreOp) (image : Image) (places : Places) (bound : ℕ →
 
   -- the lines of a number and a store
   number_lines : (short : Bool) (number : ℕ) (store : Instruction) (word : ℕ) → (high_part number == 0) ≡ short
-      → first_commits (instructions_of (on_registers (load_by short number) ++ (store, LocalAt word) ∷ [])) ≡ first_commits (load_number number ++ store ∷ [])
+      → first_commits 1 (instructions_of (on_registers (load_by short number) ++ (store, LocalAt word) ∷ [])) ≡ first_commits 1 (load_number number ++ store ∷ [])
   number_lines short number store word e =
-      ap first_commits (instructions_of-append (load_by short number) ((store, LocalAt word) ∷ [])) ∙ ap (λ b. first_commits (load_by b number ++ store ∷ [])) (sym e)
+      ap (λ is. first_commits 1 is) (instructions_of-append (load_by short number) ((store, LocalAt word) ∷ [])) ∙ ap (λ b. first_commits 1 (load_by b number ++ store ∷ [])) (sym e)
 
   few_of_number : (short : Bool) (number : ℕ) → length (on_registers (load_by short number)) ≤ 20
   few_of_number true number = omega arith
@@ -206,7 +206,7 @@ module _ (core : List CoreOp) (image : Image) (places : Places) (bound : ℕ →
 
   -- what code leaves in a register of what is known
   get_with : (known : OwnValue) (code : Quiets) (register v : ℕ) → Here (Get known)
-      → first_commits (instructions_of (code ++ result_line register n (d + 1) ∷ [])) ≡ expression_block globals levels d (Get known)
+      → first_commits 1 (instructions_of (code ++ result_line register n (d + 1) ∷ [])) ≡ expression_block globals levels d (Get known)
       → length code ≤ 20
       → local setting (Get known) p.runner.has ≡ with_values p.runner.has (v ∷ vs)
       → Gives told code h register v → IsDone (Get known)
@@ -286,7 +286,7 @@ module _ (core : List CoreOp) (image : Image) (places : Places) (bound : ℕ →
       let code = on_registers (add_by short number group_frame_register) in
       let same : word (a + number) ≡ word (address_of (p.runner.has.call.frames 0 + w)) = omega arith in
       get_with (FrameAddress 0 w) code t0 (word (address_of (p.runner.has.call.frames 0 + w))) here
-      (ap (λ is. first_commits is) (instructions_of-append (add_by short number group_frame_register) (result_line t0 n (d + 1) ∷ []))) (few_of_own short number) refl
+      (ap (λ is. first_commits 1 is) (instructions_of-append (add_by short number group_frame_register) (result_line t0 n (d + 1) ∷ []))) (few_of_own short number) refl
       (subst (Gives told code h t0) same (own_sum_gives short number a refl has.is))
 
   word_and_nothing : (a : ℕ) → a < 2 ^ 32 → word_sum a 0 ≡ a
@@ -329,8 +329,8 @@ module _ (core : List CoreOp) (image : Image) (places : Places) (bound : ℕ →
       let same : word (a + number) ≡ word (address_of (p.runner.has.call.frames nesting + w)) = omega arith in
       let first = node_gives own out a stands.frame here.enters.ready.in_range.waiting here.few here.is.1.1 (omega arith) node in
       get_with (FrameAddress nesting w) (load ∷ on_registers (add_by short number t1)) t0 (word (address_of (p.runner.has.call.frames nesting + w))) here
-      (ap (λ rest. first_commits (load_node own levels out ∷ rest)) (instructions_of-append (add_by short number t1) (result_line t0 n (d + 1) ∷ []))
-      ∙ ap (λ (b : Bool). first_commits (if b then own_address d w else part_address levels d nesting w)) (sym of_part))
+      (ap (λ rest. first_commits 1 (load_node own levels out ∷ rest)) (instructions_of-append (add_by short number t1) (result_line t0 n (d + 1) ∷ []))
+      ∙ ap (λ (b : Bool). first_commits 1 (if b then own_address d w else part_address levels d nesting w)) (sym of_part))
       (few_of_sum load short number) refl
       (subst (Gives told (load ∷ on_registers (add_by short number t1)) h t0) same
       (gives_behind told (load ∷ []) (on_registers (add_by short number t1)) h t0 (word (a + number))
@@ -409,7 +409,7 @@ module _ (core : List CoreOp) (image : Image) (places : Places) (bound : ℕ →
       (here.fits.goes_on true) here.fits.room (omega arith) (omega arith) (omega arith)
 
   join_with : (sign : Op) (turned : Bool) (first second : Instruction × Reached) (a b : ℕ) → Here (Binary sign turned)
-      → first_commits (first.0 ∷ second.0 ∷ (operator_code sign ++ result t0 (d - 1) ∷ [])) ≡ expression_block globals levels d (Binary sign turned)
+      → first_commits 1 (first.0 ∷ second.0 ∷ (operator_code sign ++ result t0 (d - 1) ∷ [])) ≡ expression_block globals levels d (Binary sign turned)
       → CanWalk told (first ∷ second ∷ []) h → HasSame h (walk told (first ∷ second ∷ []) h)
       → (walk told (first ∷ second ∷ []) h).local ≡ h.local
       → HasOperands (walk told (first ∷ second ∷ []) h) a b
@@ -421,7 +421,7 @@ module _ (core : List CoreOp) (image : Image) (places : Places) (bound : ℕ →
       let short = few_of_operator sign in
       let count = length-on_registers (operator_code sign) in
       value_does (Binary sign turned) (first ∷ second ∷ on_registers (operator_code sign)) t0 2 (d - 1) (applied sign a b) here
-      (ap (λ rest. first_commits (first.0 ∷ second.0 ∷ rest)) (instructions_of-append (operator_code sign) _) ∙ same)
+      (ap (λ rest. first_commits 1 (first.0 ∷ second.0 ∷ rest)) (instructions_of-append (operator_code sign) _) ∙ same)
       (omega arith)
       record { kind = refl; onward = refl }
       (ap (with_values p.runner.has) (joined_is (in_order turned (applied sign)) vs (omega arith) ∙ ap (λ v. v ∷ before 2 vs) order))
@@ -469,7 +469,7 @@ module _ (core : List CoreOp) (image : Image) (places : Places) (bound : ℕ →
 
   -- code behind the two values, that leaves the address in t0
   index_with : (size : ℕ) (code : Quiets) → Here (Index size)
-      → first_commits (operand t0 (d - 1) ∷ operand t1 d ∷ instructions_of (code ++ result_line t0 n (d - 1) ∷ [])) ≡ expression_block globals levels d (Index size)
+      → first_commits 1 (operand t0 (d - 1) ∷ operand t1 d ∷ instructions_of (code ++ result_line t0 n (d - 1) ∷ [])) ≡ expression_block globals levels d (Index size)
       → length code ≤ 10
       → ((g : Hart) → g.registers t0 ≡ last (before 1 vs) → g.registers t1 ≡ last vs → Gives told code g t0 (word (last (before 1 vs) + last vs * size)))
       → IsDone (Index size)
@@ -489,7 +489,7 @@ module _ (core : List CoreOp) (image : Image) (places : Places) (bound : ℕ →
   index_by : (size : ℕ) (is_word : Bool) → (size == 4) ≡ is_word → Here (Index size) → IsDone (Index size)
   index_by size true e here =
       index_with size ((Slli t1 t1 2, Plain) ∷ (Add t0 t0 t1, Plain) ∷ []) here
-      (ap (λ b. first_commits (operand t0 (d - 1) ∷ operand t1 d ∷ (times_size b size ++ Add t0 t0 t1 ∷ result t0 (d - 1) ∷ []))) (sym e)) (omega arith)
+      (ap (λ b. first_commits 1 (operand t0 (d - 1) ∷ operand t1 d ∷ (times_size b size ++ Add t0 t0 t1 ∷ result t0 (d - 1) ∷ []))) (sym e)) (omega arith)
       (λ g a b. record {
         can = (tt, (tt, tt));
         same = itself g;
@@ -502,7 +502,7 @@ module _ (core : List CoreOp) (image : Image) (places : Places) (bound : ℕ →
       let is = here.is in
       let number = word_sum (high_part size * 4096) (low_part size) in
       index_with size ((Lui t2 (high_part size), Plain) ∷ (Addi t2 t2 (low_part size), Plain) ∷ (Mul t1 t1 t2, Plain) ∷ (Add t0 t0 t1, Plain) ∷ []) here
-      (ap (λ b. first_commits (operand t0 (d - 1) ∷ operand t1 d ∷ (times_size b size ++ Add t0 t0 t1 ∷ result t0 (d - 1) ∷ []))) (sym e)) (omega arith)
+      (ap (λ b. first_commits 1 (operand t0 (d - 1) ∷ operand t1 d ∷ (times_size b size ++ Add t0 t0 t1 ∷ result t0 (d - 1) ∷ []))) (sym e)) (omega arith)
       (λ g a b. record {
         can = (tt, (tt, (tt, (tt, tt))));
         same = itself g;

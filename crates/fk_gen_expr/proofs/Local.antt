@@ -55,7 +55,7 @@ pub record IsLocal (core : List CoreOp) (i : ℕ) (op : CoreOp) (operation : Ope
   pub kind : class_of operation ≡ Local
   pub onward : follows core operation i op.target p.runner.left.callers (is_onward operation p.runner.has) ≡ position (suc i) p.runner.left.callers
 
-lines_behind : (l : Instruction × Reached) (ls : Quiets) → length ls ≡ past_first (first_commits (instructions_of (l ∷ ls)))
+lines_behind : (l : Instruction × Reached) (ls : Quiets) → length ls ≡ past_first (first_commits 1 (instructions_of (l ∷ ls)))
 lines_behind l ls = sym (ap length (quiet_lines-instructions ls) ∙ quiet_length ls)
 
 -- such code stands at the index, its first instruction commits, and behind it the hart stands for the processor that has done
@@ -63,16 +63,16 @@ lines_behind l ls = sym (ap length (quiet_lines-instructions ls) ∙ quiet_lengt
 pub code_does : (core : List CoreOp) (image : Image) (places : Places) (bound : ℕ → ℕ) (i : ℕ) (op : CoreOp) (operation : Operation)
     (setting : Setting) (t : MachineSetting) (p : Owner) (h : Hart) (code : Quiets) (Also : Hart → Type 0)
     → OpAt core i op operation → Enters core image places setting t i op operation p h
-    → HasBlock image bound places i (first_commits (instructions_of code))
+    → HasBlock image bound places i (first_commits 1 (instructions_of code))
     → 0 < length code → length code ≤ 100
     → IsLocal core i op operation p
     → CanWalk (told_of t (number_of p)) code h
     → StandsFor places (owner_of (local_doing core image places setting i op operation p)) (walk (told_of t (number_of p)) code h)
     → Also (walk (told_of t (number_of p)) code h)
-    → DoesAnd core image places setting t p h 0 (past_first (first_commits (instructions_of code))) Also
+    → DoesAnd core image places setting t 1 p h 0 (past_first (first_commits 1 (instructions_of code))) Also
 code_does core image places bound i op operation setting t p h [] Also op_at en has some few is_local can stands also = absurd (omega arith)
 code_does core image places bound i op operation setting t p h (l ∷ ls) Also op_at en has some few is_local can stands also =
-    subst (λ n. DoesAnd core image places setting t p h 0 n Also) (lines_behind l ls)
+    subst (λ n. DoesAnd core image places setting t 1 p h 0 n Also) (lines_behind l ls)
     (local_does core image places bound setting t i op operation p h op_at is_local.kind en l.0 l.1 ls
-    (subst (λ rest. HasBlock image bound places i (commits l.0 ∷ rest)) (quiet_lines-instructions ls) has)
+    (subst (λ rest. HasBlock image bound places i (commits 1 l.0 ∷ rest)) (quiet_lines-instructions ls) has)
     (omega arith) can (ap (λ w. w.at) is_local.onward) stands Also also)

@@ -24,9 +24,9 @@ quiet_unlabeled : (is : List Instruction) → All IsUnlabeled (map quiet is)
 quiet_unlabeled [] = All-nil IsUnlabeled
 quiet_unlabeled (i ∷ is) = All-cons IsUnlabeled (quiet i) (map quiet is) refl (quiet_unlabeled is)
 
-first_unlabeled : (is : List Instruction) → All IsUnlabeled (first_commits is)
+first_unlabeled : (is : List Instruction) → All IsUnlabeled (first_commits 1 is)
 first_unlabeled [] = All-nil IsUnlabeled
-first_unlabeled (i ∷ is) = All-cons IsUnlabeled (commits i) (map quiet is) refl (quiet_unlabeled is)
+first_unlabeled (i ∷ is) = All-cons IsUnlabeled (commits 1 i) (map quiet is) refl (quiet_unlabeled is)
 
 pub block_unlabeled : (globals : ℕ) (levels : Levels) (d : ℕ) (operation : Operation) → All IsUnlabeled (expression_block globals levels d operation)
 block_unlabeled globals levels d operation = first_unlabeled (expression_code globals levels d operation)
@@ -36,35 +36,35 @@ pub record IsShortCode (count : ℕ) : Type 0 where
   pub some : 1 ≤ count
   pub few : count ≤ 8
 
-length_first : (is : List Instruction) → length (first_commits is) ≡ length is
+length_first : (is : List Instruction) → length (first_commits 1 is) ≡ length is
 length_first [] = refl
 length_first (i ∷ is) = let e = length-map is quiet in omega arith
 
 -- what two loads, an operator and a store come to
 joined_few : (is : List Instruction) (a b s : Instruction) → 1 ≤ length is → length is ≤ 5
-    → IsShortCode (length (first_commits (a ∷ b ∷ (is ++ s ∷ []))))
+    → IsShortCode (length (first_commits 1 (a ∷ b ∷ (is ++ s ∷ []))))
 joined_few is a b s some few =
     let e = length_first (a ∷ b ∷ (is ++ s ∷ [])) in
     let f = length-append is (s ∷ []) in
     record { some = omega arith; few = omega arith }
 
-number_short : (short : Bool) (n : ℕ) (s : Instruction) → IsShortCode (length (first_commits (load_by short n ++ s ∷ [])))
+number_short : (short : Bool) (n : ℕ) (s : Instruction) → IsShortCode (length (first_commits 1 (load_by short n ++ s ∷ [])))
 number_short true n s = record { some = omega arith; few = omega arith }
 number_short false n s = record { some = omega arith; few = omega arith }
 
-index_short : (is_word : Bool) (size : ℕ) (a b c s : Instruction) → IsShortCode (length (first_commits (a ∷ b ∷ (times_size is_word size ++ c ∷ s ∷ []))))
+index_short : (is_word : Bool) (size : ℕ) (a b c s : Instruction) → IsShortCode (length (first_commits 1 (a ∷ b ∷ (times_size is_word size ++ c ∷ s ∷ []))))
 index_short true size a b c s = record { some = omega arith; few = omega arith }
 index_short false size a b c s = record { some = omega arith; few = omega arith }
 
-sum_short : (short : Bool) (n r : ℕ) (l s : Instruction) → IsShortCode (length (first_commits (l ∷ (add_by short n r ++ s ∷ []))))
+sum_short : (short : Bool) (n r : ℕ) (l s : Instruction) → IsShortCode (length (first_commits 1 (l ∷ (add_by short n r ++ s ∷ []))))
 sum_short true n r l s = record { some = omega arith; few = omega arith }
 sum_short false n r l s = record { some = omega arith; few = omega arith }
 
-own_short : (short : Bool) (n r : ℕ) (s : Instruction) → IsShortCode (length (first_commits (add_by short n r ++ s ∷ [])))
+own_short : (short : Bool) (n r : ℕ) (s : Instruction) → IsShortCode (length (first_commits 1 (add_by short n r ++ s ∷ [])))
 own_short true n r s = record { some = omega arith; few = omega arith }
 own_short false n r s = record { some = omega arith; few = omega arith }
 
-frame_short : (own : Bool) (levels : Levels) (d nesting word : ℕ) → IsShortCode (length (first_commits (if own then own_address d word else part_address levels d nesting word)))
+frame_short : (own : Bool) (levels : Levels) (d nesting word : ℕ) → IsShortCode (length (first_commits 1 (if own then own_address d word else part_address levels d nesting word)))
 frame_short true levels d nesting word = own_short (high_part (4 * word) == 0) (4 * word) group_frame_register (result t0 (d + 1))
 frame_short false levels d nesting word =
     sum_short (high_part (past_header word) == 0) (past_header word) t1 (load_node (outward levels nesting == 0) levels (outward levels nesting)) (result t0 (d + 1))

@@ -139,7 +139,7 @@ expression_code globals levels d operation = []
 abbrev pub expression_block : (globals : ℕ) → Levels → (depth : ℕ) → Operation
     → List MarkedLine
 expression_block globals levels d operation =
-    first_commits (expression_code globals levels d operation)
+    first_commits 1 (expression_code globals levels d operation)
 
 -- Variables that instructions reach: they are words of a frame.
 abbrev pub IsReached : Variable → Type 0

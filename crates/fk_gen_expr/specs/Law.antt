@@ -30,7 +30,7 @@ ExpressionsDo =
     → Fits core places.frames i op operation
     → (setting : Setting) (t : MachineSetting) (p : Owner) (h : Hart)
     → Enters core image places setting t i op operation p h
-    → FindsPart places levels operation p h → Does core image places setting t p h
+    → FindsPart places levels operation p h → Does core image places setting t 1 p h
 
 -- The block of an operation of expressions commits with its first instruction, has as many cycles
 -- after it as lines, and keeps what such a block keeps.
@@ -47,6 +47,6 @@ ExpressionsKeep =
     → (setting : Setting) (t : MachineSetting) (p : Owner) (h : Hart)
     → Enters core image places setting t i op operation p h
     → FindsPart places levels operation p h
-    → DoesAnd core image places setting t p h 0
+    → DoesAnd core image places setting t 1 p h 0
     (past_first (expression_block (length image.globals.items) levels op.depth operation))
     (Keeps places (length p.runner.has.callers) (peak operation op.depth) (writes operation) h)

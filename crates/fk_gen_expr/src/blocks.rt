@@ -92,12 +92,12 @@ fn emit_expression(
 fn push_number(into: &mut Assembler, depth: u32, number: u32) -> Result<(), AllocError>
     requires depth { depth < 64 }
     requires room { length into.old.lines
-        + length (first_commits (code.push_number depth number)) < 2 ^ 30 }
+        + length (first_commits 1 (code.push_number depth number)) < 2 ^ 30 }
     requires free { AreFollowed into.old }
     ensures added { OnOk result
-        (into.new ≡ with_block into.old (first_commits (code.push_number depth number))) }
+        (into.new ≡ with_block into.old (first_commits 1 (code.push_number depth number))) }
     ensures begun { OnErr result
-        (HasBegun (first_commits (code.push_number depth number)) into.old into.new) }
+        (HasBegun (first_commits 1 (code.push_number depth number)) into.old into.new) }
 {
     let high = high_part(number);
     let low = low_part(number);
@@ -126,12 +126,12 @@ fn get(
     requires depth { depth < 64 }
     requires known { code.IsKnown known globals levels }
     requires room { length into.old.lines
-        + length (first_commits (code.get_code globals levels depth known)) < 2 ^ 30 }
+        + length (first_commits 1 (code.get_code globals levels depth known)) < 2 ^ 30 }
     requires free { AreFollowed into.old }
     ensures added { OnOk result (into.new ≡ with_block into.old
-        (first_commits (code.get_code globals levels depth known))) }
+        (first_commits 1 (code.get_code globals levels depth known))) }
     ensures begun { OnErr result
-        (HasBegun (first_commits (code.get_code globals levels depth known)) into.old into.new) }
+        (HasBegun (first_commits 1 (code.get_code globals levels depth known)) into.old into.new) }
 {
     match known {
         OwnValue::Value(variable) => {
@@ -162,12 +162,12 @@ fn frame_address(
     requires word { word < 2 ^ 21 }
     requires few { levels.behind + 4 * levels.count ≤ 57 }
     requires room { length into.old.lines
-        + length (first_commits (code.frame_address levels depth nesting word)) < 2 ^ 30 }
+        + length (first_commits 1 (code.frame_address levels depth nesting word)) < 2 ^ 30 }
     requires free { AreFollowed into.old }
     ensures added { OnOk result (into.new ≡ with_block into.old
-        (first_commits (code.frame_address levels depth nesting word))) }
+        (first_commits 1 (code.frame_address levels depth nesting word))) }
     ensures begun { OnErr result (HasBegun
-        (first_commits (code.frame_address levels depth nesting word)) into.old into.new) }
+        (first_commits 1 (code.frame_address levels depth nesting word)) into.old into.new) }
 {
     if nesting == 0 {
         own_address(into, depth, word)
@@ -181,12 +181,12 @@ fn own_address(into: &mut Assembler, depth: u32, word: u32) -> Result<(), AllocE
     requires depth { depth < 64 }
     requires word { word < 2 ^ 21 }
     requires room { length into.old.lines
-        + length (first_commits (code.own_address depth word)) < 2 ^ 30 }
+        + length (first_commits 1 (code.own_address depth word)) < 2 ^ 30 }
     requires free { AreFollowed into.old }
     ensures added { OnOk result
-        (into.new ≡ with_block into.old (first_commits (code.own_address depth word))) }
+        (into.new ≡ with_block into.old (first_commits 1 (code.own_address depth word))) }
     ensures begun { OnErr result
-        (HasBegun (first_commits (code.own_address depth word)) into.old into.new) }
+        (HasBegun (first_commits 1 (code.own_address depth word)) into.old into.new) }
 {
     let high = high_part(4 * word);
     let low = low_part(4 * word);
@@ -213,12 +213,12 @@ fn part_address(
     requires word { word < 2 ^ 21 }
     requires few { levels.behind + 4 * levels.count ≤ 57 }
     requires room { length into.old.lines
-        + length (first_commits (code.part_address levels depth nesting word)) < 2 ^ 30 }
+        + length (first_commits 1 (code.part_address levels depth nesting word)) < 2 ^ 30 }
     requires free { AreFollowed into.old }
     ensures added { OnOk result (into.new ≡ with_block into.old
-        (first_commits (code.part_address levels depth nesting word))) }
+        (first_commits 1 (code.part_address levels depth nesting word))) }
     ensures begun { OnErr result (HasBegun
-        (first_commits (code.part_address levels depth nesting word)) into.old into.new) }
+        (first_commits 1 (code.part_address levels depth nesting word)) into.old into.new) }
 {
     let load = BlockLine::commits(load_node(levels, levels.nest.saturating_sub(nesting)));
     let number = PAST_HEADER + 4 * word;
@@ -248,9 +248,9 @@ fn alone(into: &mut Assembler, instruction: Instruction) -> Result<(), AllocErro
     requires room { length into.old.lines + 1 < 2 ^ 30 }
     requires free { AreFollowed into.old }
     ensures added { OnOk result
-        (into.new ≡ with_block into.old (first_commits (instruction ∷ []))) }
+        (into.new ≡ with_block into.old (first_commits 1 (instruction ∷ []))) }
     ensures begun { OnErr result
-        (HasBegun (first_commits (instruction ∷ [])) into.old into.new) }
+        (HasBegun (first_commits 1 (instruction ∷ [])) into.old into.new) }
 {
     emit_lines(into, &[BlockLine::commits(instruction)])
 }
@@ -262,9 +262,9 @@ fn move_word(into: &mut Assembler, load: Instruction, store: Instruction) -> Res
     requires room { length into.old.lines + 2 < 2 ^ 30 }
     requires free { AreFollowed into.old }
     ensures added { OnOk result
-        (into.new ≡ with_block into.old (first_commits (load ∷ store ∷ []))) }
+        (into.new ≡ with_block into.old (first_commits 1 (load ∷ store ∷ []))) }
     ensures begun { OnErr result
-        (HasBegun (first_commits (load ∷ store ∷ [])) into.old into.new) }
+        (HasBegun (first_commits 1 (load ∷ store ∷ [])) into.old into.new) }
 {
     emit_lines(into, &[BlockLine::commits(load), BlockLine::quiet(store)])
 }
@@ -275,9 +275,9 @@ fn push_device(into: &mut Assembler, depth: u32, offset: u32) -> Result<(), Allo
     requires room { length into.old.lines + 2 < 2 ^ 30 }
     requires free { AreFollowed into.old }
     ensures added { OnOk result
-        (into.new ≡ with_block into.old (first_commits (code.push_device depth offset))) }
+        (into.new ≡ with_block into.old (first_commits 1 (code.push_device depth offset))) }
     ensures begun { OnErr result
-        (HasBegun (first_commits (code.push_device depth offset)) into.old into.new) }
+        (HasBegun (first_commits 1 (code.push_device depth offset)) into.old into.new) }
 {
     move_word(
         into,
@@ -290,12 +290,12 @@ fn index(into: &mut Assembler, depth: u32, size: u32) -> Result<(), AllocError>
     requires two { 2 ≤ depth }
     requires depth { depth ≤ 64 }
     requires room { length into.old.lines
-        + length (first_commits (code.index_code depth size)) < 2 ^ 30 }
+        + length (first_commits 1 (code.index_code depth size)) < 2 ^ 30 }
     requires free { AreFollowed into.old }
     ensures added { OnOk result
-        (into.new ≡ with_block into.old (first_commits (code.index_code depth size))) }
+        (into.new ≡ with_block into.old (first_commits 1 (code.index_code depth size))) }
     ensures begun { OnErr result
-        (HasBegun (first_commits (code.index_code depth size)) into.old into.new) }
+        (HasBegun (first_commits 1 (code.index_code depth size)) into.old into.new) }
 {
     if size == WORD {
         emit_lines(
@@ -329,9 +329,9 @@ fn apply(into: &mut Assembler, depth: u32, sign: Unary) -> Result<(), AllocError
     requires room { length into.old.lines + 3 < 2 ^ 30 }
     requires free { AreFollowed into.old }
     ensures added { OnOk result
-        (into.new ≡ with_block into.old (first_commits (values.operand T0 depth
+        (into.new ≡ with_block into.old (first_commits 1 (values.operand T0 depth
         ∷ operators.sign_instruction sign ∷ values.result T0 depth ∷ []))) }
-    ensures begun { OnErr result (HasBegun (first_commits (values.operand T0 depth
+    ensures begun { OnErr result (HasBegun (first_commits 1 (values.operand T0 depth
         ∷ operators.sign_instruction sign ∷ values.result T0 depth ∷ [])) into.old into.new) }
 {
     emit_lines(
@@ -363,12 +363,12 @@ fn join(into: &mut Assembler, depth: u32, sign: Op, first: u8, second: u8) -> Re
     requires first { IsRegister first }
     requires second { IsRegister second }
     requires room { length into.old.lines
-        + length (first_commits (code.join_code depth sign first second)) < 2 ^ 30 }
+        + length (first_commits 1 (code.join_code depth sign first second)) < 2 ^ 30 }
     requires free { AreFollowed into.old }
     ensures added { OnOk result (into.new
-        ≡ with_block into.old (first_commits (code.join_code depth sign first second))) }
+        ≡ with_block into.old (first_commits 1 (code.join_code depth sign first second))) }
     ensures begun { OnErr result
-        (HasBegun (first_commits (code.join_code depth sign first second)) into.old into.new) }
+        (HasBegun (first_commits 1 (code.join_code depth sign first second)) into.old into.new) }
 {
     let a = BlockLine::commits(operand(first, depth - 1));
     let b = BlockLine::quiet(operand(second, depth));

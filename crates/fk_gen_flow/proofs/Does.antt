@@ -44,7 +44,7 @@ pub alone_does : (core : List CoreOp) (image : Image) (places : Places) (setting
     → IsAbout image t k h → IsAt image k instruction 1 → ((sh : Shared) → perform t (number_of p) instruction h sh ≡ Goes h1 sh) → behind ≤ most_behind
     → ((s : Commons) → part core setting 1 s p ≡ Passes s d)
     → Comes image (later t) (number_of p) behind h1 (λ h'. HasDone core image places d h' × Also h')
-    → DoesAnd core image places setting t p h 0 behind Also
+    → DoesAnd core image places setting t 1 p h 0 behind Also
 alone_does core image places setting t p h h1 d Also k instruction behind about at goes few part_is rest = record {
   few_before = omega arith;
   few_behind = few;
@@ -75,7 +75,7 @@ pub lw_does : (core : List CoreOp) (image : Image) (places : Places) (setting : 
     → IsAbout image t k h → IsAt image k (Lw rd rs imm) 1 → IsLocal (word_sum (h.registers rs) imm) w → behind ≤ most_behind
     → ((s : Commons) → part core setting 1 s p ≡ Passes s d)
     → Comes image (later t) (number_of p) behind (writes h rd (h.local w)) (λ h'. HasDone core image places d h' × Also h')
-    → DoesAnd core image places setting t p h 0 behind Also
+    → DoesAnd core image places setting t 1 p h 0 behind Also
 lw_does core image places setting t p h d Also k rd rs imm w behind about at is few part_is rest =
     alone_does core image places setting t p h (writes h rd (h.local w)) d Also k (Lw rd rs imm) behind about at
     (λ sh. lw-local t (number_of p) rd rs imm w h sh (omega (arith, is.0)) (place_of-local _ w is.1 is.0)) few part_is rest
@@ -171,7 +171,7 @@ module _ (core : List CoreOp) (image : Image) (bound : ℕ → ℕ) (places : Pl
   branch_way : HasBlock image bound places i (branch_block onward op.depth op.target) → OpAt core i op (Branch onward) → Fits core places.frames i op (Branch onward)
       → (setting : Setting) (t : MachineSetting) (p : Owner) (h : Hart) → Holds image t → p.runner.left.at ≡ i → length (values p.runner.has) ≡ op.depth → length p.runner.has.callers < 256
       → StandsAt places p h → (way : Bool) → is_onward (Branch onward) p.runner.has ≡ way
-      → DoesAnd core image places setting t p h 0 (if way then 1 else 2) (Keeps places (length p.runner.has.callers) op.depth (changes (Branch onward)) h)
+      → DoesAnd core image places setting t 1 p h 0 (if way then 1 else 2) (Keeps places (length p.runner.has.callers) op.depth (changes (Branch onward)) h)
   branch_way block op_at fits setting t p h holds e depth waiting at true on =
       let number = number_of p in
       let n = length p.runner.has.callers in
@@ -188,7 +188,7 @@ module _ (core : List CoreOp) (image : Image) (bound : ℕ → ℕ) (places : Pl
       let goes : goes_on onward (value_in h n op.depth) ≡ true = ap (goes_on onward) value ∙ sym (is_goes_on onward p) ∙ on in
       let here : word_sum h1.pc 8 ≡ 4 * places.block (suc i) = let a = about1.at in let b = l1.within in omega (arith, block.next) in
       lw_does core image places setting t p h (branched p true) (Keeps places n op.depth (changes (Branch onward)) h) k t0 end_register (at_value op.depth) (place_word n op.depth) 1 about l0 (is.1, is.0) (omega arith)
-      (λ s. operations_are_next core i op (Branch onward) setting s p op_at e ∙ ap (λ w. Passes s (branched p w)) on)
+      (λ s. operations_are_next core i op (Branch onward) setting 0 s p op_at e ∙ ap (λ w. Passes s (branched p w)) on)
       (first image (later t) number 0 (suc k) _ h1 (record h1 { pc = word_sum h1.pc 8 }) (HasBranched p true h) about1 l1
       (λ s. (s.reserved, passed onward (later t) number h1 s at.stands.nought goes (omega (arith, here))))
       (there image _ number _ (HasBranched p true h) (
@@ -220,7 +220,7 @@ module _ (core : List CoreOp) (image : Image) (bound : ℕ → ℕ) (places : Pl
       let about2 : IsAbout image (later (later t)) (suc (suc k)) (moves h1) = record { code = holds; live = at.live; at = next_word h1.pc (suc k) about1.at l1.within } in
       let target = bound (label_of op.target) in
       lw_does core image places setting t p h (branched p false) (Keeps places n op.depth (changes (Branch onward)) h) k t0 end_register (at_value op.depth) (place_word n op.depth) 2 about l0 (is.1, is.0) (omega arith)
-      (λ s. operations_are_next core i op (Branch onward) setting s p op_at e ∙ ap (λ w. Passes s (branched p w)) on)
+      (λ s. operations_are_next core i op (Branch onward) setting 0 s p op_at e ∙ ap (λ w. Passes s (branched p w)) on)
       (first image (later t) number 1 (suc k) _ h1 (moves h1) (HasBranched p false h) about1 l1
       (λ s. (s.reserved, not_passed onward (later t) number h1 s at.stands.nought goes))
       (first image (later (later t)) number 0 (suc (suc k)) _ (moves h1) (jumps (moves h1) 0 (4 * target)) (HasBranched p false h) about2 l2
@@ -238,14 +238,14 @@ module _ (core : List CoreOp) (image : Image) (bound : ℕ → ℕ) (places : Pl
       ))))
 
   pub branch_keeps : HasBlock image bound places i (branch_block onward op.depth op.target) → OpAt core i op (Branch onward) → Fits core places.frames i op (Branch onward)
-      → BlockKeeps core image places 0 (λ way. if way then 1 else 2) i op (Branch onward)
+      → BlockKeeps core image places 1 0 (λ way. if way then 1 else 2) i op (Branch onward)
   branch_keeps block op_at fits setting t p h enters =
       branch_way block op_at fits setting t p h enters.running.code enters.index enters.ready.depth enters.ready.in_range.waiting enters.at _ refl
 
 -- ---- halts
 
 pub halt_does : (core : List CoreOp) (image : Image) (bound : ℕ → ℕ) (places : Places) (i : ℕ) (op : CoreOp) → HasBlock image bound places i halt_block → OpAt core i op Halt
-    → BlockHalts core image places i op
+    → BlockHalts core image places 1 i op
 halt_does core image bound places i op block op_at setting t p h enters =
     let number = number_of p in
     let about = about_block image bound places t p h i enters.running.code enters.index enters.at in
@@ -264,7 +264,7 @@ halt_does core image bound places i op block op_at setting t p h enters =
             hart = record (moves h) { ended = true };
             store = s;
             done = record { acting = taking p.runner (Some (step_of core i op Halt p.runner.left.callers)); heap = p.heap };
-            part = operations_are_next core i op Halt setting s p op_at enters.index;
+            part = operations_are_next core i op Halt setting 0 s p op_at enters.index;
             goes = λ earlier sh shows. (
               sh,
               step_at image (places.block i) 1 _ l0 t enters.running.code number h sh about.at

@@ -214,7 +214,7 @@ module _ (core : List CoreOp) (image : Image) (bound : ℕ → ℕ) (places : Pl
 
   asked : (setting : Setting) (s : Commons) (p : Owner) (b : Bool) → p.runner.left.at ≡ i → nat_lt (suc (length p.runner.has.callers)) 256 ≡ b → part core setting 1 s p ≡ answer_of p s b
   unfolding answer_of
-  asked setting s p b e is = operations_are_next core i op (Enter n) setting s p op_at e ∙ ap (answer_of p s) is
+  asked setting s p b e is = operations_are_next core i op (Enter n) setting 0 s p op_at e ∙ ap (answer_of p s) is
 
   served : (setting : Setting) (s : Commons) (p : Owner) → p.runner.left.at ≡ i → length p.runner.has.callers < 255 → part core setting 1 s p ≡ nodes.Passes s (entering core image bound places i op n clears p)
   unfolding answer_of
@@ -400,7 +400,7 @@ module _ (core : List CoreOp) (image : Image) (bound : ℕ → ℕ) (places : Pl
 
   -- 255 calls wait already
   faults : (setting : Setting) (t : MachineSetting) (p : Owner) (h : Hart) → Enters core image places setting t i op (Enter n) p h → 255 ≤ length p.runner.has.callers
-      → DoesAnd core image places setting t p h 3 (call_takes clears n) (KeepsBelow (frame_end (length p.runner.has.callers)) (space_frames h) h)
+      → DoesAnd core image places setting t 1 p h 3 (call_takes clears n) (KeepsBelow (frame_end (length p.runner.has.callers)) (space_frames h) h)
   faults setting t p h enters le =
       let number = number_of p in
       let stands = enters.at.stands in
@@ -456,7 +456,7 @@ module _ (core : List CoreOp) (image : Image) (bound : ℕ → ℕ) (places : Pl
 
   -- else there is room
   begins : (setting : Setting) (t : MachineSetting) (p : Owner) (h : Hart) → Enters core image places setting t i op (Enter n) p h → length p.runner.has.callers < 255
-      → DoesAnd core image places setting t p h 3 (cycles_behind clears n) (KeepsBelow (frame_end (length p.runner.has.callers)) (space_frames h) h)
+      → DoesAnd core image places setting t 1 p h 3 (cycles_behind clears n) (KeepsBelow (frame_end (length p.runner.has.callers)) (space_frames h) h)
   begins setting t p h enters lt =
       let number = number_of p in
       let stands = enters.at.stands in
@@ -543,8 +543,8 @@ module _ (core : List CoreOp) (image : Image) (bound : ℕ → ℕ) (places : Pl
         };
       }
 
-  pub enter_keeps : BlockKeeps core image places 3 (λ way. call_takes clears n) i op (Enter n)
+  pub enter_keeps : BlockKeeps core image places 1 3 (λ way. call_takes clears n) i op (Enter n)
   enter_keeps setting t p h enters = elim (cases_lt (length p.runner.has.callers) 255) [
-    | inl lt ↦ subst (λ c. DoesAnd core image places setting t p h 3 c (KeepsBelow (frame_end (length p.runner.has.callers)) (space_frames h) h)) (all_take clears n) (begins setting t p h enters lt)
+    | inl lt ↦ subst (λ c. DoesAnd core image places setting t 1 p h 3 c (KeepsBelow (frame_end (length p.runner.has.callers)) (space_frames h) h)) (all_take clears n) (begins setting t p h enters lt)
     | inr le ↦ faults setting t p h enters le
   ]

@@ -49,7 +49,7 @@ keeps : (core : List CoreOp) (image : Image) (places : Places) (bound : ℕ → 
     → OpAt core i op operation → is_alone operation ≡ true → is_flow operation ≡ true → op.site < 2 ^ 32
     → HasBlock image bound places i (block_by clears back op (Some operation)) → HasShared image bound → CallsReturn core image bound places
     → places.frames.of_file ≤ 56 → Fits core places.frames i op operation → ClearsEnough places.frames i clears operation
-    → BlockKeeps core image places (before_commit operation) (behind_commit clears operation) i op operation
+    → BlockKeeps core image places 1 (before_commit operation) (behind_commit clears operation) i op operation
 keeps core image places bound i op (Branch onward) clears back at alone flow small block shared calls few fits enough = branch_keeps core image bound places i op onward block at fits
 keeps core image places bound i op (Leave gives framed) clears back at alone flow small block shared calls few fits enough =
     leave_keeps core image bound places i op gives framed few calls block at fits

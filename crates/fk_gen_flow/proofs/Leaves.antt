@@ -150,7 +150,7 @@ module _ (core : List CoreOp) (image : Image) (bound : ℕ → ℕ) (places : Pl
       → (s : Commons) → part core setting 1 s p ≡ Passes s (ended p m l)
   ended_part setting p m l op_at e s =
       let q = unframed framed p.runner.has in
-      operations_are_next core i op (Leave gives framed) setting s p op_at e
+      operations_are_next core i op (Leave gives framed) setting 0 s p op_at e
       ∙ ap (λ backs. Passes s (left_by p (returned core backs) (to_caller gives (last (values p.runner.has)) q p.runner.has.callers))) l.are_backs
       ∙ ap (λ calls. Passes s (left_by p (position l.back l.backs') (to_caller gives (last (values p.runner.has)) q calls))) l.are_calls
 
@@ -280,7 +280,7 @@ module _ (core : List CoreOp) (image : Image) (bound : ℕ → ℕ) (places : Pl
   Keeps framed h' = KeepsBelow (result_word p.runner.has.callers) (frames_behind framed p.runner.has h) h h'
 
   abbrev Ends : (gives framed : Bool) → Type 0
-  Ends gives framed = DoesAnd core image places setting t p h 0 (leaving_takes gives framed) (Keeps framed)
+  Ends gives framed = DoesAnd core image places setting t 1 p h 0 (leaving_takes gives framed) (Keeps framed)
 
   abbrev Entered : (gives framed : Bool) → Type 0
   Entered gives framed = Enters core image places setting t i op (Leave gives framed) p h
@@ -334,10 +334,10 @@ module _ (core : List CoreOp) (image : Image) (bound : ℕ → ℕ) (places : Pl
 
   -- the lines that give it back, and what follows them
   gives_back : (gives : Bool) → OpAt core i op (Leave gives true) → (enters : Entered gives true)
-      → LinesAt image bound k (first_commits giving_back) → (behind : ℕ) → behind ≤ 100
+      → LinesAt image bound k (first_commits 1 giving_back) → (behind : ℕ) → behind ≤ 100
       → (IsAbout image (later (later (later t))) (suc (suc (suc k))) given
       → Comes image (later (later (later t))) number behind given (λ h'. HasDone core image places (ended core image bound places i op gives true p h.local (last_call gives true enters)) h' × Keeps true h'))
-      → DoesAnd core image places setting t p h 0 (suc (suc behind)) (Keeps true)
+      → DoesAnd core image places setting t 1 p h 0 (suc (suc behind)) (Keeps true)
   gives_back gives op_at enters lines behind small rest =
       let at = enters.at in
       let n = length p.runner.has.callers in
@@ -464,7 +464,7 @@ module _ (core : List CoreOp) (image : Image) (bound : ℕ → ℕ) (places : Pl
 
 pub leave_keeps : (core : List CoreOp) (image : Image) (bound : ℕ → ℕ) (places : Places) (i : ℕ) (op : CoreOp) (gives framed : Bool) → places.frames.of_file ≤ 56
     → CallsReturn core image bound places → HasBlock image bound places i (leave_block gives framed op.depth) → OpAt core i op (Leave gives framed) → Fits core places.frames i op (Leave gives framed)
-    → BlockKeeps core image places 0 (λ way. leaving_takes gives framed) i op (Leave gives framed)
+    → BlockKeeps core image places 1 0 (λ way. leaving_takes gives framed) i op (Leave gives framed)
 leave_keeps core image bound places i op true true few calls block op_at fits setting t p h enters = leave_framed_with core image bound places i op few calls setting t p h block op_at fits enters
 leave_keeps core image bound places i op true false few calls block op_at fits setting t p h enters = leave_with core image bound places i op few calls setting t p h block op_at fits enters
 leave_keeps core image bound places i op false true few calls block op_at fits setting t p h enters = leave_framed core image bound places i op few calls setting t p h block op_at fits enters

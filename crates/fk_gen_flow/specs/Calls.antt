@@ -21,9 +21,9 @@ abbrev pub depth_lines : (arguments depth site : ℕ) → List MarkedLine
 depth_lines arguments depth site =
     quiet (Bne end_register heap_register 16) ∷ quiet (Lui t0 (high_part site)) ∷
     quiet (Addi t0 t0 (low_part site)) ∷
-    commits (Sw device_register t0 8) ∷ quiet (Sw end_register frame_register 4) ∷
+    commits 1 (Sw device_register t0 8) ∷ quiet (Sw end_register frame_register 4) ∷
     quiet (Addi t2 end_register (at_value (depth - arguments + 1)))
-    ∷ commits (Sw end_register t2 8) ∷ []
+    ∷ commits 1 (Sw end_register t2 8) ∷ []
 
 -- Copies one argument: the word k words before the first argument becomes private word k of the new
 -- frame.

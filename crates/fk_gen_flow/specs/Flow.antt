@@ -26,7 +26,7 @@ passes false = Beq t0 zero_register 8
 
 abbrev pub branch_block : (onward : Bool) (depth target : ℕ) → List MarkedLine
 branch_block onward depth target =
-    commits (operand t0 depth) ∷ quiet (passes onward) ∷ jump_line target ∷ []
+    commits 1 (operand t0 depth) ∷ quiet (passes onward) ∷ jump_line target ∷ []
 
 -- Gives the words of the call's group frame back: the frames of the group end where that frame
 -- begins. The register with its address has what it had before.
@@ -49,12 +49,12 @@ leaving true depth =
 leaving false depth = Lw t1 frame_register 0 ∷ returning
 
 abbrev pub leaving_lines : (commit : Bool) → (gives : Bool) (depth : ℕ) → List MarkedLine
-leaving_lines true gives depth = first_commits (leaving gives depth)
+leaving_lines true gives depth = first_commits 1 (leaving gives depth)
 leaving_lines false gives depth = map quiet (leaving gives depth)
 
 abbrev pub leave_block : (gives framed : Bool) (depth : ℕ) → List MarkedLine
-leave_block gives true depth = first_commits giving_back ++ leaving_lines false gives depth
+leave_block gives true depth = first_commits 1 giving_back ++ leaving_lines false gives depth
 leave_block gives false depth = leaving_lines true gives depth
 
 abbrev pub halt_block : List MarkedLine
-halt_block = commits (Sw device_register zero_register 12) ∷ []
+halt_block = commits 1 (Sw device_register zero_register 12) ∷ []

@@ -84,11 +84,13 @@ KeepsFor places (Leave gives framed) depth p h h' =
 KeepsFor places operation depth p h h' =
     Keeps places (length p.callers) (peak operation depth) (writes operation) h h'
 
--- The block of an operation does it in this many cycles, and keeps what must be kept.
-abbrev pub BlockKeeps : (core : List CoreOp) → Image → Places → (before : ℕ)
+-- The block of an operation does it by a commit with this count, in this many cycles, and keeps
+-- what must be kept.
+abbrev pub BlockKeeps : (core : List CoreOp) → Image → Places → (count before : ℕ)
     → (behind : (onward : Bool) → ℕ) → (i : ℕ) → CoreOp → Operation → Type 0
-BlockKeeps core image places before behind i op operation =
+BlockKeeps core image places count before behind i op operation =
     (setting : Setting) (t : MachineSetting) (p : Owner) (h : Hart)
     → Enters core image places setting t i op operation p h
-    → DoesAnd core image places setting t p h before (behind (is_onward operation p.runner.has))
+    → DoesAnd core image places setting t count p h before
+    (behind (is_onward operation p.runner.has))
     (λ h'. KeepsFor places operation op.depth p.runner.has h h')

@@ -71,7 +71,7 @@ FlowBlocksDo =
     → CallsReturn core image bound places
     → places.frames.of_file ≤ 56 → Fits core places.frames i op operation
     → ClearsEnough places.frames i clears operation
-    → BlockDoes core image places i op operation
+    → BlockDoes core image places 1 i op operation
 
 -- The blocks of branches, calls and ends of calls take this many cycles, and keep what must be
 -- kept.
@@ -85,7 +85,7 @@ FlowBlocksKeep =
     → CallsReturn core image bound places
     → places.frames.of_file ≤ 56 → Fits core places.frames i op operation
     → ClearsEnough places.frames i clears operation
-    → BlockKeeps core image places (before_commit operation)
+    → BlockKeeps core image places 1 (before_commit operation)
     (behind_commit clears operation) i op operation
 
 -- The block of a halt ends its hart.
@@ -93,7 +93,8 @@ abbrev pub HaltsEnd : Type 0
 HaltsEnd =
     (core : List CoreOp) (image : Image) (places : Places) (bound : ℕ → ℕ) (i : ℕ) (op : CoreOp)
     (clears back : ℕ) → OpAt core i op Halt
-    → HasBlock image bound places i (flow_block clears back op) → BlockHalts core image places i op
+    → HasBlock image bound places i (flow_block clears back op)
+    → BlockHalts core image places 1 i op
 
 -- From its start each hart comes to the block where `main` begins, with the first values of private
 -- variables.

@@ -134,8 +134,8 @@ fn emit_framed_leave(into: &mut Assembler, gives: bool, depth: u32) -> Result<()
 fn emit_giving_back(into: &mut Assembler) -> Result<(), AllocError>
     requires room { length into.old.lines + 3 < 2 ^ 30 }
     requires free { AreFollowed into.old }
-    ensures added { OnOk result (into.new ≡ with_block into.old (first_commits giving_back)) }
-    ensures begun { OnErr result (HasBegun (first_commits giving_back) into.old into.new) }
+    ensures added { OnOk result (into.new ≡ with_block into.old (first_commits 1 giving_back)) }
+    ensures begun { OnErr result (HasBegun (first_commits 1 giving_back) into.old into.new) }
 {
     emit_lines(
         into,

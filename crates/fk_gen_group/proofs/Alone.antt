@@ -17,7 +17,7 @@ use Rattle.fk_gen_group.proofs.Calls.{has_entered, enters_in_node, has_left, lea
 
 stays : (core : List CoreOp) (image : Image) (places : Places) (nestings : Nestings) (cycles : Cycles) (i : ℕ) (op : CoreOp) (operation : Operation)
     → OpAt core i op operation → is_alone operation ≡ true → LevelsFit core places nestings i op operation
-    → BlockKeepsIn core image places (levels_at nestings i) (cycles.before i) (cycles.behind i) i op operation → BlockDoesInNode core image places nestings cycles i op operation
+    → BlockKeepsIn core image places (levels_at nestings i) (cycles.before i) (cycles.behind i) i op operation → BlockDoesInNode core image places nestings cycles 1 i op operation
 stays core image places nestings cycles i op (Enter n) stands alone levels keeps setting t runs first m p en member finds =
     in_cycles_of core image places nestings cycles setting t i (Enter n) runs first m p alone member
     (does_in_node core image places nestings setting p t runs (cycles.before i) (cycles.behind i true) m (KeepsBelow (frame_end (length p.runner.has.callers)) (space_frames m.hart) m.hart) (keeps setting t p m.hart en tt)

@@ -107,7 +107,7 @@ stands_with_frames places nestings setting runs first frames m p q h' member nod
 
 module _ (core : List CoreOp) (image : Image) (places : Places) (nestings : Nestings) (setting : Setting) (p : Owner) where
   -- a block whose hart is in its node whatever its processor has done
-  pub does_in_node : (t : MachineSetting) (runs : Option ℕ) (before behind : ℕ) (m : Member) (Also : Hart → Type 0) → DoesAnd core image places setting t p m.hart before behind Also
+  pub does_in_node : (t : MachineSetting) (runs : Option ℕ) (before behind : ℕ) (m : Member) (Also : Hart → Type 0) → DoesAnd core image places setting t 1 p m.hart before behind Also
       → ((h' : Hart) (d : Doing) (s s' : Commons) → part core setting 1 s p ≡ Passes s' d → HasDone core image places d h' → Also h' → StandsInNode places nestings setting runs (owner_of d) h')
       → OneDoes (core_source core setting) image t 1 before behind (member_of p m.hart) p (λ h d. HasDoneInNode core image places nestings setting runs d h)
   does_in_node t runs before behind m Also does in_node =
@@ -375,8 +375,8 @@ module _ (places : Places) (nestings : Nestings) (setting : Setting) (i : ℕ) (
 pub same_call_in_node : (core : List CoreOp) (image : Image) (places : Places) (nestings : Nestings) (cycles : Cycles) (i : ℕ) (op : CoreOp) (operation : Operation)
     → OpAt core i op operation → is_alone operation ≡ true → stays_in_call operation ≡ true → HasLevels core places nestings i op operation
     → ((setting : Setting) (t : MachineSetting) (p : Owner) (h : Hart) → Enters core image places setting t i op operation p h → FindsPart places (levels_at nestings i) operation p h
-    → DoesAnd core image places setting t p h (cycles.before i) (cycles.behind i (is_onward operation p.runner.has)) (Keeps places (length p.runner.has.callers) (peak operation op.depth) (writes operation) h))
-    → BlockDoesInNode core image places nestings cycles i op operation
+    → DoesAnd core image places setting t 1 p h (cycles.before i) (cycles.behind i (is_onward operation p.runner.has)) (Keeps places (length p.runner.has.callers) (peak operation op.depth) (writes operation) h))
+    → BlockDoesInNode core image places nestings cycles 1 i op operation
 same_call_in_node core image places nestings cycles i op operation stands alone stays levels does setting t runs first m p en member finds =
     in_cycles_of core image places nestings cycles setting t i operation runs first m p alone member
     (does_in_node core image places nestings setting p t runs (cycles.before i) (cycles.behind i (is_onward operation p.runner.has)) m

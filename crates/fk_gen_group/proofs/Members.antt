@@ -132,7 +132,7 @@ module _ (core : List CoreOp) (setting : Setting) (i : ℕ) (op : CoreOp) (opera
   due_part s p stands kind room e =
       let step = step_at core i op operation p.runner.left.callers in
       let a = taking p.runner (Some step) in
-      operations_are_next core i op operation setting s p stands e
+      operations_are_next core i op operation setting 0 s p stands e
       ∙ ap (λ c. let b = do_local (next core) setting a c step in phase_of core setting s p b b.due) kind
       ∙ ap (λ b. if b then hires (heap_start (setting.globals + setting.inputs)) s p a step else as_part s.asked p (request_phase (found s p.heap) a (Some step))) (tree_hires_none operation kind)
       ∙ ap (λ c. as_part s.asked p (do_request (found s p.heap) a c step)) kind
@@ -143,7 +143,7 @@ module _ (core : List CoreOp) (setting : Setting) (i : ℕ) (op : CoreOp) (opera
   fault_part s p stands kind full e =
       let step = step_at core i op operation p.runner.left.callers in
       let a = taking p.runner (Some step) in
-      operations_are_next core i op operation setting s p stands e
+      operations_are_next core i op operation setting 0 s p stands e
       ∙ ap (λ c. let b = do_local (next core) setting a c step in phase_of core setting s p b b.due) kind
       ∙ ap (λ b. if b then hires (heap_start (setting.globals + setting.inputs)) s p a step else as_part s.asked p (request_phase (found s p.heap) a (Some step))) (tree_hires_none operation kind)
       ∙ ap (λ c. as_part s.asked p (do_request (found s p.heap) a c step)) kind

@@ -71,7 +71,7 @@ module _ (core : List CoreOp) (image : Image) (places : Places) (nestings : Nest
 
 pub step_together : (core : List CoreOp) (image : Image) (places : Places) (nestings : Nestings) (i : ℕ) (op : CoreOp) (operation : Operation) (before behind lowest size : ℕ)
     → ((setting : Setting) (first highest : ℕ) → OneTakes core image places nestings i op operation setting first highest lowest size before behind)
-    → StepTogether core image places nestings i op operation AreInGroup before behind None (λ p. None) lowest size
+    → StepTogether core image places nestings i op operation 1 AreInGroup before behind None (λ p. None) lowest size
 step_together core image places nestings i op operation before behind lowest size one setting t mine first ms ps own owns all inside =
     let source = core_source core setting in
     let highest = highest_value ps in

@@ -59,7 +59,7 @@ agree_block depth =
 
 -- All members run the body of a `farm`, each by itself.
 abbrev pub farm_block : List MarkedLine
-farm_block = commits (Addi body_register size_register 0) ∷ []
+farm_block = commits 1 (Addi body_register size_register 0) ∷ []
 
 -- The block of `seq`. All members store 0 to the node's word in one cycle, and add 1 to it in the
 -- next. The lowest finds 0: it skips the next jump and runs the body alone. The others jump to the
@@ -68,7 +68,7 @@ abbrev pub seq_block : (target : ℕ) → List MarkedLine
 seq_block target =
     quiet (Addi t2 node_register (4 * agreed_word)) ∷ quiet (Addi t1 zero_register 1) ∷
     quiet (Sw t2 zero_register 0) ∷
-    commits (AmoAddW t0 t2 t1 false false) ∷ quiet (Beq t0 zero_register 8) ∷
+    commits 1 (AmoAddW t0 t2 t1 false false) ∷ quiet (Beq t0 zero_register 8) ∷
     goes_to (Jal zero_register 0) (label_of target)
     ∷ quiet (Addi body_register zero_register 1) ∷ []
 
@@ -99,7 +99,7 @@ second_taking false = Addi t1 t1 0
 abbrev pub taking_lines : (nesting : ℕ) → List MarkedLine
 taking_lines nesting =
     quiet (first_taking (nesting == 0)) ∷ quiet (second_taking (nesting == 0))
-    ∷ commits (Addi frames_register t0 0) ∷ []
+    ∷ commits 1 (Addi frames_register t0 0) ∷ []
 
 -- A frame is taken behind those of the group, if it ends where the group's blocks begin, or before.
 abbrev pub frame_lines : (nesting site : ℕ) → List MarkedLine
@@ -120,7 +120,7 @@ frame_takes words = length (add_number (4 * words) frames_register) + 4
 -- number of bytes taken 0. Sizes below 0 are more than are free.
 abbrev pub shalloc_block : (depth : ℕ) → List MarkedLine
 shalloc_block d =
-    first_commits (
+    first_commits 1 (
     operand t0 d ∷ Addi t0 t0 3 ∷ Andi t0 t0 0xfffffffc ∷
     Sub t1 blocks_register frames_register ∷ Addi t2 t0 0xffffffff ∷ Sltu t2 t2 t1 ∷
     Sub t2 zero_register t2 ∷ And t0 t0 t2 ∷ Sub blocks_register blocks_register t0 ∷
@@ -173,9 +173,9 @@ node_lines globals =
     quiet (Lui t1 (high_part (group_words globals))) ∷
     quiet (Addi t1 t1 (low_part (group_words globals))) ∷ quiet (Add node_register t0 t1) ∷ []
 
--- They get the space of their group and go to its body. The frames begin after the header. The
--- blocks begin at the end of the space, which is halfway from its first word to the root's control
--- words.
+-- All processors get the space of their group and go to its body. The frames begin after the
+-- header. The blocks begin at the end of the space, which is halfway from its first word to the
+-- root's control words.
 abbrev pub space_lines : List MarkedLine
 space_lines =
     quiet (Addi frames_register node_register 32) ∷
@@ -240,7 +240,7 @@ abbrev pub HasWords : Option Operation → Type 0
 HasWords (Some (Frame nesting words)) = words < 2 ^ 21
 HasWords operation = Unit {0}
 
--- The words of a frame have numbers in lists.
+-- The frame of the group that a `fork` divided has few enough words for a number of a list.
 abbrev pub HasFewWords : Option ℕ → Type 0
 HasFewWords None = Unit {0}
 HasFewWords (Some words) = words < 2 ^ 21

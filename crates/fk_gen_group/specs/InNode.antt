@@ -71,7 +71,7 @@ abbrev pub BlockKeepsIn : (core : List CoreOp) → Image → Places → Levels �
 BlockKeepsIn core image places levels before behind i op operation =
     (setting : Setting) (t : MachineSetting) (p : Owner) (h : Hart)
     → Enters core image places setting t i op operation p h → FindsPart places levels operation p h
-    → DoesAnd core image places setting t p h before (behind (is_onward operation p.runner.has))
+    → DoesAnd core image places setting t 1 p h before (behind (is_onward operation p.runner.has))
     (λ h'. KeepsFor places operation op.depth p.runner.has h h')
 
 -- A block of an operation that processors do alone, and that keeps what must be kept, keeps its
@@ -84,7 +84,7 @@ LoneBlocksStayInNode =
     → LevelsFit core places nestings i op operation
     → BlockKeepsIn core image places (levels_at nestings i) (cycles.before i) (cycles.behind i) i op
     operation
-    → BlockDoesInNode core image places nestings cycles i op operation
+    → BlockDoesInNode core image places nestings cycles 1 i op operation
 
 -- The block of a jump keeps its hart in its node, where the call goes on with the same levels.
 abbrev pub JumpsStayInNode : Type 0

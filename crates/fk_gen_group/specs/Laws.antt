@@ -28,7 +28,7 @@ use Rattle.fk_gen_group.specs.Start.{gathered_at, who_comes}
 use Rattle.fk_sim_block.specs.Joint.{is_meeting, BlockMeets}
 use Rattle.fk_sim_block.specs.Start.{BlockStarts}
 
--- How the last level at an index was left.
+-- Whether a `fork` left the last level at an index.
 abbrev pub last_fork : Nestings → (index : ℕ) → Option ℕ
 last_fork nestings i = nestings.forks i (nestings.levels i - 1)
 
@@ -41,12 +41,13 @@ levels_at nestings i = record {
   fork = last_fork nestings i;
 }
 
--- A `fork` leaves a level that is told as such, and any other split one that isn't.
+-- The level that a `fork` leaves is told as one that a `fork` left. That of any other split isn't.
 abbrev pub LeavesBy : SplitKind → Option ℕ → Type 0
 LeavesBy Fork None = ⊥
 LeavesBy Fork (Some words) = Unit {0}
 LeavesBy by told = told ≡ None
 
+-- At the second index there is one level more, which this split left.
 pub record OpensBy (by : SplitKind) (nestings : Nestings) (i j : ℕ) : Type 0 where
   pub opens : LevelOpens nestings i j
   pub left : LeavesBy by (nestings.forks j (nestings.levels i))
@@ -77,7 +78,7 @@ GroupsAgree =
     (core : List CoreOp) (image : Image) (bound : ℕ → ℕ) (places : Places) (nestings : Nestings)
     (i : ℕ) (op : CoreOp) (lowest size : ℕ)
     → IsInPlace core image bound places nestings i op Agree → StepTogether core image places
-    nestings i op Agree (λ ps. Unit {0}) 2 1 None (λ p. None) lowest size
+    nestings i op Agree 1 (λ ps. Unit {0}) 2 1 None (λ p. None) lowest size
 
 -- The block of a `barrier`, of the end of a body or of the end of a part leads its hart to a
 -- meeting, where it arrives after at most 7 cycles.
@@ -94,7 +95,7 @@ GroupsSetFree =
     (core : List CoreOp) (image : Image) (bound : ℕ → ℕ) (places : Places) (nestings : Nestings)
     (i : ℕ) (op : CoreOp) (lowest size : ℕ)
     → size ≤ 1024 → IsInPlace core image bound places nestings i op Farm
-    → PartTogether core image places nestings i op Farm (λ ps. AreOfSize size ps) 0 0 None
+    → PartTogether core image places nestings i op Farm 1 (λ ps. AreOfSize size ps) 0 0 None
     (λ p. Some size) lowest size
 
 -- The lowest member alone comes to the body of a `seq`, which it runs by itself. The others come to
@@ -104,7 +105,7 @@ GroupsSendOne =
     (core : List CoreOp) (image : Image) (bound : ℕ → ℕ) (places : Places) (nestings : Nestings)
     (i : ℕ) (op : CoreOp) (lowest size : ℕ)
     → IsInPlace core image bound places nestings i op Seq → LevelsStay nestings i op.target
-    → PartTogether core image places nestings i op Seq
+    → PartTogether core image places nestings i op Seq 1
     (λ ps. (length ps ≤ 1024) × IsLowest lowest ps) 3 2 None (one_runs lowest) lowest size
 
 -- The members of the group of `start`, which has no level in the frame, go back to the root.
@@ -114,7 +115,7 @@ GroupsEnd =
     (i : ℕ) (op : CoreOp) (lowest size : ℕ)
     → IsInPlace core image bound places nestings i op End
     → (nestings.levels i ≡ 0 → LevelsStay nestings i op.target)
-    → EndTogether core image places nestings i op 6 lowest size
+    → EndTogether core image places nestings i op 1 6 lowest size
 
 -- At the beginning of `start` all processors meet in the root, after at most 9 cycles. Two cycles
 -- after the one in which they leave they commit, and know the last value of the highest. Those with
@@ -136,7 +137,7 @@ GroupsTakeFrames =
     (core : List CoreOp) (image : Image) (bound : ℕ → ℕ) (places : Places) (nestings : Nestings)
     (i : ℕ) (op : CoreOp) (nesting words lowest size : ℕ)
     → IsInPlace core image bound places nestings i op (Frame nesting words) → op.site < 2 ^ 32
-    → StepTogether core image places nestings i op (Frame nesting words) AreInGroup
+    → StepTogether core image places nestings i op (Frame nesting words) 1 AreInGroup
     (frame_takes words) 0 None (λ p. None) lowest size
 
 -- Members in lockstep take a block of `shalloc` together. They commit at once, and 12 cycles bring
@@ -146,7 +147,7 @@ GroupsTakeBlocks =
     (core : List CoreOp) (image : Image) (bound : ℕ → ℕ) (places : Places) (nestings : Nestings)
     (i : ℕ) (op : CoreOp) (lowest size : ℕ)
     → IsInPlace core image bound places nestings i op Block
-    → StepTogether core image places nestings i op Block AreInGroup 0 12 None (λ p. None)
+    → StepTogether core image places nestings i op Block 1 AreInGroup 0 12 None (λ p. None)
     lowest size
 
 -- ---- parts

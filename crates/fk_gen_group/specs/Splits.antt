@@ -86,8 +86,8 @@ parting_lines label word target site =
     quiet (Addi t2 frame_register (at_private word)) ∷ goes_to (Jal ra 0) label ∷
     goes_to (Jal zero_register 0) (label_of target) ∷ no_parts site
 
--- Who enters a part of the first `fork` of a call has in t3 the address of the first control word
--- after the frames of the group, and stores it in the header.
+-- Who enters a part of a `fork` has in t3 the address of the first control word after the frames of
+-- the group. If the `fork` leaves the first level of its call, the header keeps this address.
 abbrev pub heading_by : (count : ℕ) → List MarkedLine
 heading_by count = if count == 0 then quiet (Sw end_register t3 (at_value 60)) ∷ [] else []
 
@@ -224,8 +224,8 @@ abbrev pub last_level : Levels → ℕ
 last_level levels = level_word levels (levels.count - 1)
 
 -- The group around a part of a `fork`: its size and `@`, its node, its blocks, `$`, and where its
--- frames end. That is in the header at the first level of a call. Else the frame of the group has
--- so many words.
+-- frames end. At the first level of a call the header has that address. At any other it is the one
+-- after the group's header and its frame of so many words.
 abbrev pub header_frames : List MarkedLine
 header_frames = quiet (Lw frames_register end_register (at_value 60)) ∷ []
 
@@ -254,7 +254,7 @@ abbrev pub out_of_fork : (word count words target : ℕ) → List MarkedLine
 out_of_fork word count words target =
     forked_front word ++ (frames_end count words ++ away_line target)
 
--- By how the group around the part was left.
+-- The end of a part, by whether a `fork` made it.
 abbrev pub end_part_by : Option ℕ → Levels → (target : ℕ) → List MarkedLine
 end_part_by None levels target = outward_lines true (last_level levels) target
 end_part_by (Some words) levels target =

@@ -29,7 +29,7 @@ const FIRST_LABEL: u32 = 128;
 /// The offset of the device that ends a run at a site, from the first device, in bytes.
 const FAULT_DEVICE: u32 = 8;
 /// How many words before the end of a call's frame its header has the address of the first control
-/// word after the frames of the group that the call's first `fork` divides.
+/// word after the frames of the group that is the first level of the call, if a `fork` divides it.
 const FRAMES_PLACE: u32 = 60;
 
 /// A split. Most of its code is shared.
@@ -169,7 +169,7 @@ fn emit_or(into: &mut Assembler, depth: u32) -> Result<(), AllocError>
     )
 }
 
-// The way to the shared code, the ways back, and what who comes into a part does there.
+// The way to the shared code, the ways back, and the first lines of those who enter a part.
 fn emit_parting(
     into: &mut Assembler,
     by: SplitKind,
@@ -223,7 +223,8 @@ fn emit_way(
     )
 }
 
-// Who enters a part of the first `fork` of a call stores where the frames of its group end.
+// Who enters a part of a `fork` stores where the frames of the group around it end, if that is the
+// first level of the call.
 fn emit_heading(into: &mut Assembler, by: SplitKind, levels: Levels) -> Result<(), AllocError>
     requires room { length into.old.lines + length (s.heading_lines by levels) < 2 ^ 30 }
     requires free { AreFollowed into.old }
@@ -475,7 +476,7 @@ fn emit_staying(into: &mut Assembler, depth: u32) -> Result<(), AllocError>
     )
 }
 
-// They are as many as were counted.
+// The size of the part is what was counted: those who stay.
 fn emit_size(into: &mut Assembler) -> Result<(), AllocError>
     requires room { length into.old.lines + 1 < 2 ^ 30 }
     requires free { AreFollowed into.old }

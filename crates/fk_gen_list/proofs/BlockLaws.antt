@@ -91,7 +91,7 @@ module _ (core : List CoreOp) (image : Image) (places : Places) (bound : ℕ →
       → (i : ℕ) (op : CoreOp) (operation : Operation)
       → OpAt core i op operation → is_alone operation ≡ true → (flow access : Bool) → is_flow operation ≡ flow → accesses.is_access (Some operation) ≡ access
       → HasBlock image bound places i (block_in (kind_by flow access false) (here i op))
-      → BlockDoes core image places i op operation
+      → BlockDoes core image places 1 i op operation
   does_by main suits are none room ranges in_place i op operation stands alone true access f a has =
       flow_blocks_do core image places bound i op operation (here i op).clears (here i op).back stands alone f (ranges.sites i op stands.stands) has in_place.shared
       (calls_return core image bound places kept saved in_place.blocks in_place.returns) suits.few

@@ -72,14 +72,14 @@ module _ (core : List CoreOp) (image : Image) (bound : ℕ → ℕ) (places : Pl
 
   -- in the cycles that are told
   step_in : (i : ℕ) (op : CoreOp) (operation : Operation) (c d lowest size : ℕ) → OpAt core i op operation → c ≡ before i → d ≡ behind i true
-      → StepTogether core image places nestings i op operation (IsAskedOf operation lowest size) c d None (λ p. None) lowest size
-      → StepTogether core image places nestings i op operation (IsAskedOf operation lowest size) (before i) (behind i true) None (λ p. None) lowest size
+      → StepTogether core image places nestings i op operation 1 (IsAskedOf operation lowest size) c d None (λ p. None) lowest size
+      → StepTogether core image places nestings i op operation 1 (IsAskedOf operation lowest size) (before i) (behind i true) None (λ p. None) lowest size
   step_in i op operation c d lowest size stands e f step =
-      subst (λ x. StepTogether core image places nestings i op operation (IsAskedOf operation lowest size) x (behind i true) None (λ p. None) lowest size) e
-      (subst (λ x. StepTogether core image places nestings i op operation (IsAskedOf operation lowest size) c x None (λ p. None) lowest size) f step)
+      subst (λ x. StepTogether core image places nestings i op operation 1 (IsAskedOf operation lowest size) x (behind i true) None (λ p. None) lowest size) e
+      (subst (λ x. StepTogether core image places nestings i op operation 1 (IsAskedOf operation lowest size) c x None (λ p. None) lowest size) f step)
 
   steps : (i : ℕ) (op : CoreOp) (operation : Operation) (lowest size : ℕ) → OpAt core i op operation → stays_in_step operation ≡ true
-      → StepTogether core image places nestings i op operation (IsAskedOf operation lowest size) (before i) (behind i true) None (λ p. None) lowest size
+      → StepTogether core image places nestings i op operation 1 (IsAskedOf operation lowest size) (before i) (behind i true) None (λ p. None) lowest size
   steps i op Agree lowest size stands e =
       step_in i op Agree 2 1 lowest size stands (sym (before_is core globals kept saved i op Agree stands))
       (sym (ap (λ (f : Bool → ℕ). f true) (behind_is core globals kept saved i op Agree stands)))
@@ -100,19 +100,19 @@ module _ (core : List CoreOp) (image : Image) (bound : ℕ → ℕ) (places : Pl
 
   -- by what the law of its block tells
   parts_in : (i : ℕ) (op : CoreOp) (operation : Operation) (c d lowest size : ℕ) → OpAt core i op operation → c ≡ before i → d ≡ behind i true
-      → PartTogether core image places nestings i op operation (IsAskedOf operation lowest size) c d None (runs_behind operation lowest size) lowest size
-      → PartTogether core image places nestings i op operation (IsAskedOf operation lowest size) (before i) (behind i true) None (runs_behind operation lowest size) lowest size
+      → PartTogether core image places nestings i op operation 1 (IsAskedOf operation lowest size) c d None (runs_behind operation lowest size) lowest size
+      → PartTogether core image places nestings i op operation 1 (IsAskedOf operation lowest size) (before i) (behind i true) None (runs_behind operation lowest size) lowest size
   parts_in i op operation c d lowest size stands e f part =
-      subst (λ x. PartTogether core image places nestings i op operation (IsAskedOf operation lowest size) x (behind i true) None (runs_behind operation lowest size) lowest size) e
-      (subst (λ x. PartTogether core image places nestings i op operation (IsAskedOf operation lowest size) c x None (runs_behind operation lowest size) lowest size) f part)
+      subst (λ x. PartTogether core image places nestings i op operation 1 (IsAskedOf operation lowest size) x (behind i true) None (runs_behind operation lowest size) lowest size) e
+      (subst (λ x. PartTogether core image places nestings i op operation 1 (IsAskedOf operation lowest size) c x None (runs_behind operation lowest size) lowest size) f part)
 
   at_once : (i : ℕ) (op : CoreOp) (lowest size : ℕ) → OpAt core i op Farm
-      → PartTogether core image places nestings i op Farm (IsAskedOf Farm lowest size) 0 0 None (runs_behind Farm lowest size) lowest size
+      → PartTogether core image places nestings i op Farm 1 (IsAskedOf Farm lowest size) 0 0 None (runs_behind Farm lowest size) lowest size
   at_once i op lowest size stands setting t mine first ms ps own owns enter asked =
       groups_set_free core image bound places nestings i op lowest size asked.0 (in_place i op Farm stands refl) setting t mine first ms ps own owns enter asked.1
 
   parts : (i : ℕ) (op : CoreOp) (operation : Operation) (lowest size : ℕ) → OpAt core i op operation → sets_apart operation ≡ true
-      → PartTogether core image places nestings i op operation (IsAskedOf operation lowest size) (before i) (behind i true) None (runs_behind operation lowest size) lowest size
+      → PartTogether core image places nestings i op operation 1 (IsAskedOf operation lowest size) (before i) (behind i true) None (runs_behind operation lowest size) lowest size
   parts i op Farm lowest size stands e =
       parts_in i op Farm 0 0 lowest size stands (sym (before_is core globals kept saved i op Farm stands))
       (sym (ap (λ (f : Bool → ℕ). f true) (behind_is core globals kept saved i op Farm stands))) (at_once i op lowest size stands)
@@ -139,16 +139,16 @@ module _ (core : List CoreOp) (image : Image) (bound : ℕ → ℕ) (places : Pl
       absurd (omega arith)
 
   end_by : (i : ℕ) (op : CoreOp) (lowest size : ℕ) → OpAt core i op End → (start : Bool) → (nestings.levels i == 0) ≡ start
-      → EndTogether core image places nestings i op (if start then 6 else end_part_takes (last_fork nestings i) (nestings.levels i)) lowest size
+      → EndTogether core image places nestings i op 1 (if start then 6 else end_part_takes (last_fork nestings i) (nestings.levels i)) lowest size
   end_by i op lowest size stands true e setting t mine first ms ps own owns all inside =
       groups_end core image bound places nestings i op lowest size (in_place i op End stands refl) (levels.ends i op stands).start setting t mine first ms ps own owns all inside
   end_by i op lowest size stands false e setting t mine first [] [] own owns all inside = record { counted = tt; chain = (refl, (tt, refl)) }
   end_by i op lowest size stands false e setting t mine first (m ∷ ms) (p ∷ ps) own owns all inside = no_level i p.runner.left.at e inside.0.none.0 all.0.index
   end_by i op lowest size stands false e setting t mine first ms ps own owns all inside = absurd (assumption all)
 
-  ends : (i : ℕ) (op : CoreOp) (lowest size : ℕ) → OpAt core i op End → EndTogether core image places nestings i op (behind i true) lowest size
+  ends : (i : ℕ) (op : CoreOp) (lowest size : ℕ) → OpAt core i op End → EndTogether core image places nestings i op 1 (behind i true) lowest size
   ends i op lowest size stands =
-      subst (λ (f : Bool → ℕ). EndTogether core image places nestings i op (f true) lowest size) (sym (behind_end i op stands))
+      subst (λ (f : Bool → ℕ). EndTogether core image places nestings i op 1 (f true) lowest size) (sym (behind_end i op stands))
       (end_by i op lowest size stands (nestings.levels i == 0) refl)
 
   part_by : (i : ℕ) (op : CoreOp) → OpAt core i op End → (start : Bool) → (nestings.levels i == 0) ≡ start

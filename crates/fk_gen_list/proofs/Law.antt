@@ -54,7 +54,7 @@ is_lone_of operation alone = alone
 
 -- a block that makes no call and ends none keeps what is to be kept
 keeps_of : (core : List CoreOp) (image : Image) (places : Places) (before : ℕ) (behind : Bool → ℕ) (i : ℕ) (op : CoreOp) (operation : Operation) → is_flow operation ≡ false → is_alone operation ≡ true
-    → BlockDoesBy core image places before behind i op operation → BlockKeeps core image places before behind i op operation
+    → BlockDoesBy core image places 1 before behind i op operation → BlockKeeps core image places 1 before behind i op operation
 keeps_of core image places before behind i op (Enter n) flow alone does = never (sym flow)
 keeps_of core image places before behind i op (Leave gives framed) flow alone does = never (sym flow)
 keeps_of core image places before behind i op operation flow alone does = does
@@ -75,7 +75,7 @@ module _ (core : List CoreOp) (image : Image) (places : Places) (bound : ℕ →
   -- a block that makes no call and ends none keeps what is to be kept
   keeps_in : (i : ℕ) (op : CoreOp) (operation : Operation) (before : ℕ) (behind : Bool → ℕ) → is_flow operation ≡ false → is_alone operation ≡ true
       → ((setting : Setting) (t : MachineSetting) (p : Owner) (h : Hart) → Enters core image places setting t i op operation p h → FindsPart places (levels_in saved i) operation p h
-      → DoesAnd core image places setting t p h before (behind (is_onward operation p.runner.has)) (Keeps places (length p.runner.has.callers) (peak operation op.depth) (writes operation) h))
+      → DoesAnd core image places setting t 1 p h before (behind (is_onward operation p.runner.has)) (Keeps places (length p.runner.has.callers) (peak operation op.depth) (writes operation) h))
       → KeepsIn i op operation before behind
   keeps_in i op (Enter n) before behind flow alone does = never (sym flow)
   keeps_in i op (Leave gives framed) before behind flow alone does = never (sym flow)

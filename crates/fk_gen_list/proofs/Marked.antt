@@ -30,9 +30,9 @@ quiet_marked : (is : List Instruction) → AreMarked None (map quiet is)
 quiet_marked [] = All-nil (IsMarked None)
 quiet_marked (i ∷ is) = All-cons (IsMarked None) (quiet i) (map quiet is) tt (quiet_marked is)
 
-first_marked : (is : List Instruction) → AreMarked None (first_commits is)
+first_marked : (is : List Instruction) → AreMarked None (first_commits 1 is)
 first_marked [] = All-nil (IsMarked None)
-first_marked (i ∷ is) = All-cons (IsMarked None) (commits i) (map quiet is) refl (quiet_marked is)
+first_marked (i ∷ is) = All-cons (IsMarked None) (commits 1 i) (map quiet is) refl (quiet_marked is)
 
 -- ---- expressions
 
@@ -53,8 +53,8 @@ expression_marked globals levels d operation = All-nil (IsMarked (event_of opera
 
 straight_marked : (b : accesses.Straight) → AreMarked None (accesses.lines b)
 straight_marked b =
-    All-append (IsMarked None) (map quiet b.before) (commits b.commit ∷ map quiet b.behind) (quiet_marked b.before)
-    (All-cons (IsMarked None) (commits b.commit) (map quiet b.behind) refl (quiet_marked b.behind))
+    All-append (IsMarked None) (map quiet b.before) (commits 1 b.commit ∷ map quiet b.behind) (quiet_marked b.before)
+    (All-cons (IsMarked None) (commits 1 b.commit) (map quiet b.behind) refl (quiet_marked b.behind))
 
 test_marked : (alone : Bool) (d : ℕ) → AreMarked None (accesses.test_lines alone d)
 test_marked true d = All-from_recursion (IsMarked None) (accesses.shared_test d) (tt, (tt, (tt, (refl, (refl, tt)))))
@@ -75,12 +75,12 @@ access_marked d site operation = All-nil (IsMarked (event_of operation))
 -- the code that blocks of `shmalloc` share
 pub heap_marked : (globals : ℕ) → AreMarked None (heap.heap_lines globals)
 heap_marked globals =
-    let adding = map quiet heap.add_up ++ commits heap.tell ∷ [] in
+    let adding = map quiet heap.add_up ++ commits 1 heap.tell ∷ [] in
     let giving = map quiet heap.give ++ quiet heap.back ∷ [] in
     All-append (IsMarked None) (map quiet heap.ask) (adding ++ (map quiet (heap.find_end globals) ++ giving)) (quiet_marked heap.ask)
     (All-append (IsMarked None) adding (map quiet (heap.find_end globals) ++ giving)
-    (All-append (IsMarked None) (map quiet heap.add_up) (commits heap.tell ∷ []) (quiet_marked heap.add_up)
-    (All-from_recursion (IsMarked None) (commits heap.tell ∷ []) (refl, tt)))
+    (All-append (IsMarked None) (map quiet heap.add_up) (commits 1 heap.tell ∷ []) (quiet_marked heap.add_up)
+    (All-from_recursion (IsMarked None) (commits 1 heap.tell ∷ []) (refl, tt)))
     (All-append (IsMarked None) (map quiet (heap.find_end globals)) giving (quiet_marked (heap.find_end globals))
     (All-append (IsMarked None) (map quiet heap.give) (quiet heap.back ∷ []) (quiet_marked heap.give)
     (All-from_recursion (IsMarked None) (quiet heap.back ∷ []) (tt, tt)))))
@@ -113,7 +113,7 @@ enter_marked clears arguments depth site back =
 flow_marked : (clears back : ℕ) (op : CoreOp) (operation : Operation) → AreMarked (event_of operation) (flow.block_by clears back op (Some operation))
 flow_marked clears back op (o.Branch onward) = All-from_recursion (IsMarked None) (f.branch_block onward op.depth op.target) (refl, (tt, (tt, tt)))
 flow_marked clears back op (o.Leave gives true) =
-    All-append (IsMarked None) (first_commits f.giving_back) (f.leaving_lines false gives op.depth) (first_marked f.giving_back) (quiet_marked (f.leaving gives op.depth))
+    All-append (IsMarked None) (first_commits 1 f.giving_back) (f.leaving_lines false gives op.depth) (first_marked f.giving_back) (quiet_marked (f.leaving gives op.depth))
 flow_marked clears back op (o.Leave gives false) = first_marked (f.leaving gives op.depth)
 flow_marked clears back op (o.Enter arguments) = enter_marked clears arguments op.depth op.site back
 flow_marked clears back op o.Halt = All-from_recursion (IsMarked None) f.halt_block (refl, tt)

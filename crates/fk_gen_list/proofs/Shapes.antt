@@ -65,14 +65,14 @@ quiet_all : (is : List Instruction) → All IsUnlabeled (map quiet is)
 quiet_all [] = All-nil IsUnlabeled
 quiet_all (i ∷ is) = All-cons IsUnlabeled (quiet i) (map quiet is) refl (quiet_all is)
 
-first_all : (is : List Instruction) → All IsUnlabeled (first_commits is)
+first_all : (is : List Instruction) → All IsUnlabeled (first_commits 1 is)
 first_all [] = All-nil IsUnlabeled
-first_all (i ∷ is) = All-cons IsUnlabeled (commits i) (map quiet is) refl (quiet_all is)
+first_all (i ∷ is) = All-cons IsUnlabeled (commits 1 i) (map quiet is) refl (quiet_all is)
 
 straight_all : (b : accesses.Straight) → All IsUnlabeled (accesses.lines b)
 straight_all b =
-    All-append IsUnlabeled (map quiet b.before) (commits b.commit ∷ map quiet b.behind) (quiet_all b.before)
-    (All-cons IsUnlabeled (commits b.commit) (map quiet b.behind) refl (quiet_all b.behind))
+    All-append IsUnlabeled (map quiet b.before) (commits 1 b.commit ∷ map quiet b.behind) (quiet_all b.before)
+    (All-cons IsUnlabeled (commits 1 b.commit) (map quiet b.behind) refl (quiet_all b.behind))
 
 test_all : (alone : Bool) (d : ℕ) → All IsUnlabeled (accesses.test_lines alone d)
 test_all true d = All-from_recursion IsUnlabeled (accesses.shared_test d) (refl, (refl, (refl, (refl, (refl, tt)))))
@@ -135,7 +135,7 @@ flow_all n clears back op (Some (o.Branch onward)) few leads =
     All-from_recursion (GoesTo n) (f.branch_block onward op.depth op.target) (tt, (tt, (jump_goes n op.target leads, tt)))
 flow_all n clears back op (Some (o.Leave gives true)) few leads =
     go_nowhere n (f.leave_block gives true op.depth)
-    (All-append IsUnlabeled (first_commits f.giving_back) (f.leaving_lines false gives op.depth) (first_all f.giving_back) (quiet_all (f.leaving gives op.depth)))
+    (All-append IsUnlabeled (first_commits 1 f.giving_back) (f.leaving_lines false gives op.depth) (first_all f.giving_back) (quiet_all (f.leaving gives op.depth)))
 flow_all n clears back op (Some (o.Leave gives false)) few leads = go_nowhere n (f.leave_block gives false op.depth) (first_all (f.leaving gives op.depth))
 flow_all n clears back op (Some (o.Enter arguments)) few leads =
     All-append (GoesTo n) (calls.depth_lines arguments op.depth op.site) (calls.word_lines clears arguments ++ calls.frame_lines back)
@@ -312,7 +312,7 @@ access_words : (operation : Option Operation) (d site : ℕ) → length (accesse
 access_words (Some (o.Enter arguments)) d site = omega arith
 access_words operation d site = access_length operation d site
 
-first_length : (is : List Instruction) → length (first_commits is) ≡ length is
+first_length : (is : List Instruction) → length (first_commits 1 is) ≡ length is
 first_length [] = refl
 first_length (i ∷ is) = ap suc (length-map is quiet)
 
@@ -530,12 +530,12 @@ start_goes n globals =
 
 pub heap_goes : (n globals : ℕ) → All (GoesTo n) (heap.heap_lines globals)
 heap_goes n globals =
-    let adding = map quiet heap.add_up ++ commits heap.tell ∷ [] in
+    let adding = map quiet heap.add_up ++ commits 1 heap.tell ∷ [] in
     let giving = map quiet heap.give ++ quiet heap.back ∷ [] in
     go_nowhere n (heap.heap_lines globals)
     (All-append IsUnlabeled (map quiet heap.ask) (adding ++ (map quiet (heap.find_end globals) ++ giving)) (quiet_all heap.ask)
     (All-append IsUnlabeled adding (map quiet (heap.find_end globals) ++ giving)
-    (All-append IsUnlabeled (map quiet heap.add_up) (commits heap.tell ∷ []) (quiet_all heap.add_up) (All-cons IsUnlabeled (commits heap.tell) [] refl (All-nil IsUnlabeled)))
+    (All-append IsUnlabeled (map quiet heap.add_up) (commits 1 heap.tell ∷ []) (quiet_all heap.add_up) (All-cons IsUnlabeled (commits 1 heap.tell) [] refl (All-nil IsUnlabeled)))
     (All-append IsUnlabeled (map quiet (heap.find_end globals)) giving (quiet_all (heap.find_end globals))
     (All-append IsUnlabeled (map quiet heap.give) (quiet heap.back ∷ []) (quiet_all heap.give) (All-cons IsUnlabeled (quiet heap.back) [] refl (All-nil IsUnlabeled))))))
 

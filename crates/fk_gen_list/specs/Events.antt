@@ -46,7 +46,7 @@ pub record TellsEvent (core : List CoreOp) (bound : (label : ℕ) → ℕ) (glob
   pub code : IsInBlock core places operation word ⊎ IsInShared bound globals operation word
   pub event : event_of_word entry.1 ≡ number_in (event_of operation)
 
--- Each commit entry of an image does so.
+-- Each commit entry of an image tells the event of its operation.
 abbrev pub TellEvents : List CoreOp → Image → (bound : (label : ℕ) → ℕ) → Places → Type 0
 TellEvents core image bound places =
     All (TellsEvent core bound (length image.globals.items) places) image.commits.items

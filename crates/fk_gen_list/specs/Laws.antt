@@ -78,10 +78,10 @@ pub record DoesAlone (core : List CoreOp) (image : Image) (places : Places) (nes
   pub few_behind : (i : ℕ) (onward : Bool) → cycles.behind i onward ≤ most_behind
   pub alone : (i : ℕ) (op : CoreOp) (operation : Operation) → OpAt core i op operation
       → is_alone operation ≡ true
-      → BlockDoesInNode core image places nestings cycles i op operation
+      → BlockDoesInNode core image places nestings cycles 1 i op operation
   pub jumps : (i : ℕ) (op : CoreOp) → slice_get core i ≡ Some op → is_jump op ≡ true
       → BlockJumpsInNode core image places nestings i op
-  pub halts : (i : ℕ) (op : CoreOp) → OpAt core i op Halt → BlockHalts core image places i op
+  pub halts : (i : ℕ) (op : CoreOp) → OpAt core i op Halt → BlockHalts core image places 1 i op
 
 -- An image with the code of a list does what `DoesAlone` says, if the list suits frames in which
 -- calls keep no other words.
@@ -176,7 +176,7 @@ ListsHaveTheLaw =
 
 -- ---- the levels of a list
 
--- The levels that are told of a list, and how each of them was left.
+-- The levels that are told of a list, and which of them a `fork` left.
 abbrev pub nestings_of : List Levels → (forks : (index level : ℕ) → Option ℕ) → (start : Gathering)
     → Nestings
 nestings_of saved forks start = record {
@@ -187,7 +187,7 @@ nestings_of saved forks start = record {
   start = start;
 }
 
--- What is told of the last level is so.
+-- Whether a `fork` left the last level is as it is told of all levels.
 abbrev pub TellsForks : List Levels → (forks : (index level : ℕ) → Option ℕ) → Type 0
 TellsForks saved forks =
     (i : ℕ) → (levels_in saved i).fork ≡ forks i ((levels_in saved i).count - 1)

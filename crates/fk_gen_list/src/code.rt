@@ -22,10 +22,10 @@ use fk_gen::Levels;
 use fk_gen_flow::emit_opening;
 use std::alloc::{AllocError, Global};
 
-/// The code of a list of operations. `kept` has the private words that calls keep
-/// at each index, `saved` the levels of groups in their frames, `main` is the index where the
-/// program begins, `firsts` are the first values of private variables of file scope, and the image
-/// has `globals` words of globals.
+/// The code of a list of operations. `kept` has the private words that calls keep at each index,
+/// `saved` the levels of groups in their frames, `main` is the index where the program begins,
+/// `firsts` are the first values of private variables of file scope, and the image has `globals`
+/// words of globals.
 ///
 /// The opening is at word 0. After it comes the code that all calls share, that which all
 /// beginnings of `start` share, that which all blocks of `shmalloc` share, that which splits share,

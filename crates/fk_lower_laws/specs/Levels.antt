@@ -18,7 +18,7 @@ use Rattle.fk_core_typing.specs.Values.{Place, with_frame, entered, place_behind
 abbrev pub levels_in : Place → ℕ
 levels_in place = levels_of (is_main_place place.function) place.nests
 
--- Whether a `fork` left a level, and how many words the frame has of the group that it divided.
+-- Whether a `fork` left a level, and how many words the frame of the group that it divided has.
 abbrev pub forks_in : Place → (level : ℕ) → Option ℕ
 forks_in place level = forks_of (is_main_place place.function) place.nests level
 
@@ -74,8 +74,8 @@ module _ (core : List CoreOp) (frames : Frames) (rooms : Rooms) where
         → HasRoomFor (levels_in (place_behind operation onward (rooms.places i))) i
     pub goes_on : GoesOn operation i op.target
 
--- The frames of a list have room for the levels that the list counts. The list tells how each was
--- left.
+-- The frames of a list have room for the levels that the list counts. The list tells which of these
+-- levels a `fork` left.
 pub record HasRooms (core : List CoreOp) (frames : Frames) (main : ℕ) : Type 0 where
   pub rooms : Rooms
   pub main_of : (i : ℕ) → frames.is_main i ≡ is_main_place (rooms.places i).function

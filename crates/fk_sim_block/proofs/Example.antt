@@ -194,7 +194,7 @@ values_pushed : (at : ℕ → ℕ) (v : ℕ) (vs : List ℕ) → length vs ≡ 0
 values_pushed at v [] e f = (f, tt)
 values_pushed at v (w ∷ vs) e f = absurd (omega arith)
 
-push_does : (image : Image) → HasCode image → OpAt core 0 pushes (Push 5) → BlockDoes core image places 0 pushes (Push 5)
+push_does : (image : Image) → HasCode image → OpAt core 0 pushes (Push 5) → BlockDoes core image places 1 0 pushes (Push 5)
 push_does image code at setting t p h en =
     let number = number_of p in
     let n = length p.runner.has.callers in
@@ -224,7 +224,7 @@ push_does image code at setting t p h en =
             hart = h2;
             store = s;
             done = record { acting = done (step_of core 0 pushes (Push 5) p.runner.left.callers) true (push 5 p.runner.has); heap = p.heap };
-            part = operations_are_next core 0 pushes (Push 5) setting s p at en.index;
+            part = operations_are_next core 0 pushes (Push 5) setting 0 s p at en.index;
             goes = λ earlier sh shows. (
               _,
               step_at image 13 1 _ code.at13 _ en.running.code number h1 sh pc1 ∙ sw-local _ number 9 6 0xfffffffc word h1 sh aligned address,
@@ -268,7 +268,7 @@ push_does image code at setting t p h en =
       };
     }
 
-drop_does : (image : Image) → HasCode image → OpAt core 1 drops DropLast → BlockDoes core image places 1 drops DropLast
+drop_does : (image : Image) → HasCode image → OpAt core 1 drops DropLast → BlockDoes core image places 1 1 drops DropLast
 drop_does image code at setting t p h en =
     let number = number_of p in
     let stands = en.at.stands in
@@ -289,7 +289,7 @@ drop_does image code at setting t p h en =
             hart = moves h;
             store = s;
             done = record { acting = done (step_of core 1 drops DropLast p.runner.left.callers) true (drop_last 1 p.runner.has); heap = p.heap };
-            part = operations_are_next core 1 drops DropLast setting s p at en.index;
+            part = operations_are_next core 1 drops DropLast setting 0 s p at en.index;
             goes = λ earlier sh shows. (sh, step_at image 14 1 _ code.at14 _ en.running.code number h sh pc, shows, λ j e. refl);
             follows = (
               moves h,
@@ -328,7 +328,7 @@ drop_does image code at setting t p h en =
       };
     }
 
-halt_does : (image : Image) → HasCode image → OpAt core 2 halts Halt → BlockHalts core image places 2 halts
+halt_does : (image : Image) → HasCode image → OpAt core 2 halts Halt → BlockHalts core image places 1 2 halts
 halt_does image code at setting t p h en =
     let number = number_of p in
     let h1 = writes h 5 0x30000000 in
@@ -347,7 +347,7 @@ halt_does image code at setting t p h en =
             hart = record (moves h1) { ended = true };
             store = s;
             done = record { acting = taking p.runner (Some (step_of core 2 halts Halt p.runner.left.callers)); heap = p.heap };
-            part = operations_are_next core 2 halts Halt setting s p at en.index;
+            part = operations_are_next core 2 halts Halt setting 0 s p at en.index;
             goes = λ earlier sh shows. (sh, step_at image 16 1 _ code.at16 _ en.running.code number h1 sh pc1 ∙ sw-halt _ number 5 0 12 h1 sh refl place_of-halt, shows, λ j e. refl);
             follows = (record (moves h1) { ended = true }, refl, refl);
           });
@@ -366,19 +366,19 @@ when_drop operation at = let e : Some DropLast ≡ Some operation = at.is_read i
 when_halt : (operation : Operation) → OpAt core 2 halts operation → operation ≡ Halt
 when_halt operation at = let e : Some Halt ≡ Some operation = at.is_read in cc
 
-alone_at : (image : Image) → HasCode image → (i : ℕ) (op : CoreOp) (operation : Operation) → OpAt core i op operation → is_alone operation ≡ true → BlockDoes core image places i op operation
+alone_at : (image : Image) → HasCode image → (i : ℕ) (op : CoreOp) (operation : Operation) → OpAt core i op operation → is_alone operation ≡ true → BlockDoes core image places 1 i op operation
 alone_at image code zero op operation at e =
     let same : pushes ≡ op = cc in
     let at' = subst (λ o. OpAt core 0 o operation) (sym same) at in
     let is = when_push operation at' in
-    subst (λ o. BlockDoes core image places 0 o operation) same
-    (subst (BlockDoes core image places 0 pushes) (sym is) (push_does image code (subst (OpAt core 0 pushes) is at')))
+    subst (λ o. BlockDoes core image places 1 0 o operation) same
+    (subst (BlockDoes core image places 1 0 pushes) (sym is) (push_does image code (subst (OpAt core 0 pushes) is at')))
 alone_at image code (suc zero) op operation at e =
     let same : drops ≡ op = cc in
     let at' = subst (λ o. OpAt core 1 o operation) (sym same) at in
     let is = when_drop operation at' in
-    subst (λ o. BlockDoes core image places 1 o operation) same
-    (subst (BlockDoes core image places 1 drops) (sym is) (drop_does image code (subst (OpAt core 1 drops) is at')))
+    subst (λ o. BlockDoes core image places 1 1 o operation) same
+    (subst (BlockDoes core image places 1 1 drops) (sym is) (drop_does image code (subst (OpAt core 1 drops) is at')))
 alone_at image code (suc (suc zero)) op operation at e =
     let same : halts ≡ op = cc in
     let at' = subst (λ o. OpAt core 2 o operation) (sym same) at in
@@ -386,13 +386,13 @@ alone_at image code (suc (suc zero)) op operation at e =
     never (sym (ap is_alone is) ∙ e)
 alone_at image code (suc (suc (suc i))) op operation at e = absurd (let f = at.stands in cc)
 
-halts_at : (image : Image) → HasCode image → (i : ℕ) (op : CoreOp) → OpAt core i op Halt → BlockHalts core image places i op
+halts_at : (image : Image) → HasCode image → (i : ℕ) (op : CoreOp) → OpAt core i op Halt → BlockHalts core image places 1 i op
 halts_at image code zero op at = absurd (let f = at.stands in let g = at.is_read in cc)
 halts_at image code (suc zero) op at = absurd (let f = at.stands in let g = at.is_read in cc)
 halts_at image code (suc (suc zero)) op at =
     let same : halts ≡ op = cc in
     let at' = subst (λ o. OpAt core 2 o Halt) (sym same) at in
-    subst (BlockHalts core image places 2) same (halt_does image code at')
+    subst (BlockHalts core image places 1 2) same (halt_does image code at')
 halts_at image code (suc (suc (suc i))) op at = absurd (let f = at.stands in cc)
 
 no_jump : (i : ℕ) (op : CoreOp) → slice_get core i ≡ Some op → is_jump op ≡ true → ⊥

@@ -166,7 +166,7 @@ values_before : (at : ℕ → ℕ) (vs : List ℕ) → HasValues at vs → HasVa
 values_before at [] held = tt
 values_before at (v ∷ vs) held = held.1
 
-drop_does : (image : Image) → HasCode image → OpAt core 0 drops DropLast → BlockDoesInNode core image places nestings cycles 0 drops DropLast
+drop_does : (image : Image) → HasCode image → OpAt core 0 drops DropLast → BlockDoesInNode core image places nestings cycles 1 0 drops DropLast
 drop_does image code at setting t runs first m p en member finds =
     let h = m.hart in
     let stands = en.at.stands in
@@ -182,7 +182,7 @@ drop_does image code at setting t runs first m p en member finds =
           hart = moves h;
           store = s;
           done = record { acting = done (step_of core 0 drops DropLast p.runner.left.callers) true (drop_last 1 p.runner.has); heap = p.heap };
-          part = operations_are_next core 0 drops DropLast setting s p at en.index;
+          part = operations_are_next core 0 drops DropLast setting 0 s p at en.index;
           goes = λ earlier sh shows. (sh, step_at image 14 1 _ code.at14 _ en.running.code m.number h sh pc, shows, λ j e. refl);
           follows = (
             moves h,
@@ -223,7 +223,7 @@ drop_does image code at setting t runs first m p en member finds =
       };
     }
 
-halt_does : (image : Image) → HasCode image → OpAt core 1 halts Halt → BlockHalts core image places 1 halts
+halt_does : (image : Image) → HasCode image → OpAt core 1 halts Halt → BlockHalts core image places 1 1 halts
 halt_does image code at setting t p h en =
     let number = number_of p in
     let h1 = writes h 5 0x30000000 in
@@ -242,7 +242,7 @@ halt_does image code at setting t p h en =
             hart = record (moves h1) { ended = true };
             store = s;
             done = record { acting = taking p.runner (Some (step_of core 1 halts Halt p.runner.left.callers)); heap = p.heap };
-            part = operations_are_next core 1 halts Halt setting s p at en.index;
+            part = operations_are_next core 1 halts Halt setting 0 s p at en.index;
             goes = λ earlier sh shows. (sh, step_at image 16 1 _ code.at16 _ en.running.code number h1 sh pc1 ∙ sw-halt _ number 5 0 12 h1 sh refl place_of-halt, shows, λ j e. refl);
             follows = (record (moves h1) { ended = true }, refl, refl);
           });
@@ -274,22 +274,22 @@ neither test d h (suc zero) op operation at e = never (sym h ∙ sym (ap test (i
 neither test d h (suc (suc i)) op operation at e = absurd (let f = at.stands in cc)
 
 alone_at : (image : Image) → HasCode image → (i : ℕ) (op : CoreOp) (operation : Operation) → OpAt core i op operation → is_alone operation ≡ true
-    → BlockDoesInNode core image places nestings cycles i op operation
+    → BlockDoesInNode core image places nestings cycles 1 i op operation
 alone_at image code zero op operation at e =
     let same : drops ≡ op = let f = at.stands in cc in
     let at' = subst (λ o. OpAt core 0 o operation) (sym same) at in
     let is = is_drop op operation at in
-    subst (λ o. BlockDoesInNode core image places nestings cycles 0 o operation) same
-    (subst (BlockDoesInNode core image places nestings cycles 0 drops) (sym is) (drop_does image code (subst (OpAt core 0 drops) is at')))
+    subst (λ o. BlockDoesInNode core image places nestings cycles 1 0 o operation) same
+    (subst (BlockDoesInNode core image places nestings cycles 1 0 drops) (sym is) (drop_does image code (subst (OpAt core 0 drops) is at')))
 alone_at image code (suc zero) op operation at e = never (sym (ap is_alone (is_halt op operation at)) ∙ e)
 alone_at image code (suc (suc i)) op operation at e = absurd (let f = at.stands in cc)
 
-halts_at : (image : Image) → HasCode image → (i : ℕ) (op : CoreOp) → OpAt core i op Halt → BlockHalts core image places i op
+halts_at : (image : Image) → HasCode image → (i : ℕ) (op : CoreOp) → OpAt core i op Halt → BlockHalts core image places 1 i op
 halts_at image code zero op at = absurd (let f = is_drop op Halt at in cc)
 halts_at image code (suc zero) op at =
     let same : halts ≡ op = let f = at.stands in cc in
     let at' = subst (λ o. OpAt core 1 o Halt) (sym same) at in
-    subst (BlockHalts core image places 1) same (halt_does image code at')
+    subst (BlockHalts core image places 1 1) same (halt_does image code at')
 halts_at image code (suc (suc i)) op at = absurd (let f = at.stands in cc)
 
 no_jump : (i : ℕ) (op : CoreOp) → slice_get core i ≡ Some op → is_jump op ≡ true → ⊥

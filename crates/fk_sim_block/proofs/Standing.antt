@@ -2,7 +2,7 @@
 use Rattle.std.proofs.Common.{◌≡◌, ℕ, zero, suc, List, length, false, Some, ap, subst, sym, ◌∙◌, refl}
 use Rattle.std.specs.Prelude.{slice_get}
 use Rattle.fk_meaning_operation.specs.declared.operation.Operation.{Operation}
-use Rattle.fk_meaning.specs.Round.{taking}
+use Rattle.fk_meaning.specs.Round.{taking, after_locals}
 use Rattle.fk_core.specs.declared.op.CoreOp.{CoreOp}
 use Rattle.fk_core.specs.Next.{is_jump, through, led_by, landing_by, landing, step_by, step_of, next, position}
 use Rattle.fk_sim_block.specs.Owner.{phases}
@@ -24,7 +24,8 @@ next_here core i op operation callers at =
     ∙ ap (step_by core i callers op) at.is_read
 
 pub operations_are_next : OperationsAreNext
-operations_are_next core i op operation setting s p at e =
-    ap (λ n. phases core setting s p (taking p.runner n))
-    (subst (λ j. next core (position j p.runner.left.callers) ≡ Some (step_at core i op operation p.runner.left.callers)) (sym e)
-    (next_here core i op operation p.runner.left.callers at))
+operations_are_next core i op operation setting inner s p at e =
+    let r = after_locals (next core) setting inner p.runner in
+    ap (λ n. phases core setting s p (taking r n))
+    (subst (λ j. next core (position j r.left.callers) ≡ Some (step_at core i op operation r.left.callers)) (sym e)
+    (next_here core i op operation r.left.callers at))

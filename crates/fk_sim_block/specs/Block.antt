@@ -68,33 +68,35 @@ module _ (core : List CoreOp) (image : Image) (places : Places) where
     pub done : d.acting.due ≡ None
     pub at : StandsAt places (owner_of d) h
 
-  -- The hart runs `before` private instructions, commits once, and runs `behind` private
-  -- instructions after that. If the operation faults, the commit reports the fault.
-  pub record Does (setting : Setting) (t : MachineSetting) (p : Owner) (h : Hart) : Type 0 where
+  -- The hart runs `before` private instructions, commits once with this count, and runs `behind`
+  -- private instructions after that. If an operation faults, the commit reports the fault.
+  pub record Does (setting : Setting) (t : MachineSetting) (count : ℕ) (p : Owner)
+      (h : Hart) : Type 0 where
     pub before : ℕ
     pub behind : ℕ
     pub few_before : before ≤ most_before
     pub few_behind : behind ≤ most_behind
-    pub does : OneDoes (core_source core setting) image t 1 before behind (member_of p h) p
+    pub does : OneDoes (core_source core setting) image t count before behind (member_of p h) p
         (λ h' d. HasDone d h')
 
   -- The block of a local operation or of a request.
-  abbrev pub BlockDoes : (i : ℕ) → CoreOp → Operation → Type 0
-  BlockDoes i op operation =
+  abbrev pub BlockDoes : (count i : ℕ) → CoreOp → Operation → Type 0
+  BlockDoes count i op operation =
       (setting : Setting) (t : MachineSetting) (p : Owner) (h : Hart)
-      → Enters setting t i op operation p h → Does setting t p h
+      → Enters setting t i op operation p h → Does setting t count p h
 
   -- The block of a halt ends its hart.
-  pub record Halts (setting : Setting) (t : MachineSetting) (p : Owner) (h : Hart) : Type 0 where
+  pub record Halts (setting : Setting) (t : MachineSetting) (count : ℕ) (p : Owner)
+      (h : Hart) : Type 0 where
     pub before : ℕ
     pub few_before : before ≤ most_before
-    pub does : OneDoes (core_source core setting) image t 1 before 0 (member_of p h) p
+    pub does : OneDoes (core_source core setting) image t count before 0 (member_of p h) p
         (λ h' d. h'.ended ≡ true)
 
-  abbrev pub BlockHalts : (i : ℕ) → CoreOp → Type 0
-  BlockHalts i op =
+  abbrev pub BlockHalts : (count i : ℕ) → CoreOp → Type 0
+  BlockHalts count i op =
       (setting : Setting) (t : MachineSetting) (p : Owner) (h : Hart)
-      → Enters setting t i op Halt p h → Halts setting t p h
+      → Enters setting t i op Halt p h → Halts setting t count p h
 
   -- The block of a jump is one instruction, and does no operation.
   pub record Jumps (t : MachineSetting) (p : Owner) (h : Hart) (target : ℕ) : Type 0 where
@@ -121,8 +123,8 @@ module _ (core : List CoreOp) (image : Image) (places : Places) where
   pub record BlockLaw (firsts : List ℕ) (main : ℕ) : Type 0 where
     pub alone : (i : ℕ) (op : CoreOp) (operation : Operation) → OpAt core i op operation
         → is_alone operation ≡ true
-        → BlockDoes i op operation
-    pub halts : (i : ℕ) (op : CoreOp) → OpAt core i op Halt → BlockHalts i op
+        → BlockDoes 1 i op operation
+    pub halts : (i : ℕ) (op : CoreOp) → OpAt core i op Halt → BlockHalts 1 i op
     pub jumps : (i : ℕ) (op : CoreOp) → slice_get core i ≡ Some op → is_jump op ≡ true
         → BlockJumps i op
     pub begins : (setting : Setting) (t : MachineSetting) (number : ℕ) → IsRunning image setting t

@@ -119,14 +119,14 @@ module _ (core : List CoreOp) (image : Image) (places : Places) (nestings : Nest
   module _ (cycles : Cycles) where
     -- The block of a local operation or a request, for a member of a node. Where it gets the
     -- address of a word in the frame of a part, that frame has to be found.
-    abbrev pub BlockDoesInNode : (i : ℕ) → CoreOp → Operation → Type 0
-    BlockDoesInNode i op operation =
+    abbrev pub BlockDoesInNode : (count i : ℕ) → CoreOp → Operation → Type 0
+    BlockDoesInNode count i op operation =
         (setting : Setting) (t : MachineSetting) (runs : Option ℕ) (first : ℕ)
         (m : Member) (p : Owner)
         → Enters core image places setting t i op operation p m.hart
         → IsMember places nestings setting runs first m p
         → FindsFrame nestings operation p.runner
-        → OneDoes (core_source core setting) image t 1 (cycles.before i)
+        → OneDoes (core_source core setting) image t count (cycles.before i)
         (cycles.behind i (way_of operation p.runner.has)) m p
         (λ h d. HasDoneInNode setting runs d h)
 
@@ -135,11 +135,11 @@ module _ (core : List CoreOp) (image : Image) (places : Places) (nestings : Nest
       pub few_before : (i : ℕ) → cycles.before i ≤ most_before
       pub few_behind : (i : ℕ) (onward : Bool) → cycles.behind i onward ≤ most_behind
       pub alone : (i : ℕ) (op : CoreOp) (operation : Operation) → OpAt core i op operation
-          → is_alone operation ≡ true → BlockDoesInNode i op operation
+          → is_alone operation ≡ true → BlockDoesInNode 1 i op operation
       pub jumps : (i : ℕ) (op : CoreOp) → slice_get core i ≡ Some op → is_jump op ≡ true
           → BlockJumpsInNode i op
       pub halts : (i : ℕ) (op : CoreOp) → OpAt core i op Halt
-          → BlockHalts core image places i op
+          → BlockHalts core image places 1 i op
       pub begins : (setting : Setting) (t : MachineSetting) (number : ℕ) → IsRunning image setting t
           → number < setting.processors
           → BeginsInNode setting t (beginner setting (slice_index firsts) main number)
@@ -147,15 +147,16 @@ module _ (core : List CoreOp) (image : Image) (places : Places) (nestings : Nest
       -- or each goes on by itself. A frame without room is the fault of the lowest.
       pub steps : (i : ℕ) (op : CoreOp) (operation : Operation) (lowest size : ℕ)
           → OpAt core i op operation → stays_in_step operation ≡ true
-          → StepTogether core image places nestings i op operation (IsAskedOf operation lowest size)
-          (cycles.before i) (cycles.behind i true) None (λ p. None) lowest size
+          → StepTogether core image places nestings i op operation 1
+          (IsAskedOf operation lowest size) (cycles.before i) (cycles.behind i true) None
+          (λ p. None) lowest size
       pub parts : (i : ℕ) (op : CoreOp) (operation : Operation) (lowest size : ℕ)
           → OpAt core i op operation → sets_apart operation ≡ true
-          → PartTogether core image places nestings i op operation (IsAskedOf operation lowest size)
-          (cycles.before i) (cycles.behind i true) None
+          → PartTogether core image places nestings i op operation 1
+          (IsAskedOf operation lowest size) (cycles.before i) (cycles.behind i true) None
           (runs_behind operation lowest size) lowest size
       pub ends : (i : ℕ) (op : CoreOp) (lowest size : ℕ) → OpAt core i op End
-          → EndTogether core image places nestings i op (cycles.behind i true) lowest size
+          → EndTogether core image places nestings i op 1 (cycles.behind i true) lowest size
       -- Parts begin, shrink and end. A split without room is the fault of the lowest.
       pub divides : (i : ℕ) (op : CoreOp) (by : SplitKind) → OpAt core i op (Split by)
           → DividesTogether core image places nestings i op by (cycles.before i) (cycles.behind i)

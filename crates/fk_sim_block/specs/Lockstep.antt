@@ -146,15 +146,15 @@ module _ (core : List CoreOp) (image : Image) (places : Places) (nestings : Nest
         (map (stepped core i op operation (highest_value ps) lowest size) ps)
     pub others : (j : ℕ) → (j ≡ first + agreed_word → ⊥) → own j ≡ before j
 
-  -- Where the members are as the step asks, all commit together after `before` cycles, and have
-  -- done the step together `behind` cycles after that.
-  abbrev pub StepTogether : (List Owner → Type 0) → (before behind : ℕ) → (runs : Option ℕ)
-      → (runs' : Owner → Option ℕ) → (lowest size : ℕ) → Type 0
-  StepTogether Asked before behind runs runs' lowest size =
+  -- Where the members are as the step asks, all commit together with this count after `before`
+  -- cycles, and have done the step together `behind` cycles after that.
+  abbrev pub StepTogether : (count : ℕ) → (List Owner → Type 0) → (before behind : ℕ)
+      → (runs : Option ℕ) → (runs' : Owner → Option ℕ) → (lowest size : ℕ) → Type 0
+  StepTogether count Asked before behind runs runs' lowest size =
       (setting : Setting) (t : MachineSetting) (mine : Words) (first : ℕ) (ms : List Member)
       (ps : List Owner) (own : Memory)
       → OwnsHeader mine first → AllEnter setting t runs first ms ps → Asked ps
-      → Together (core_source core setting) image mine t 1 before ms ps own
+      → Together (core_source core setting) image mine t count before ms ps own
       (λ ms' ds own'. (ds ≡ map (is_due core i op operation) ps)
       × NodeRun image mine (later (in_cycles before t)) behind ms' own'
       (λ ms'' own''. HaveStepped setting runs' first lowest size ps own ms'' own''))
@@ -169,13 +169,13 @@ module _ (core : List CoreOp) (image : Image) (places : Places) (nestings : Nest
     pub others : (j : ℕ) → (j ≡ first + agreed_word → ⊥) → own j ≡ before j
 
   -- Like `StepTogether`, for a step after which the members are no longer in lockstep.
-  abbrev pub PartTogether : (List Owner → Type 0) → (before behind : ℕ) → (runs : Option ℕ)
-      → (runs' : Owner → Option ℕ) → (lowest size : ℕ) → Type 0
-  PartTogether Asked before behind runs runs' lowest size =
+  abbrev pub PartTogether : (count : ℕ) → (List Owner → Type 0) → (before behind : ℕ)
+      → (runs : Option ℕ) → (runs' : Owner → Option ℕ) → (lowest size : ℕ) → Type 0
+  PartTogether count Asked before behind runs runs' lowest size =
       (setting : Setting) (t : MachineSetting) (mine : Words) (first : ℕ) (ms : List Member)
       (ps : List Owner) (own : Memory)
       → OwnsHeader mine first → AllEnter setting t runs first ms ps → Asked ps
-      → Together (core_source core setting) image mine t 1 before ms ps own
+      → Together (core_source core setting) image mine t count before ms ps own
       (λ ms' ds own'. (ds ≡ map (is_due core i op operation) ps) × HaveParted setting
       (later (in_cycles before t)) behind runs' first lowest size ps own ms' own')
 
@@ -222,16 +222,16 @@ AreInStart nestings (p ∷ ps) = IsInStart nestings p × AreInStart nestings ps
 
 module _ (core : List CoreOp) (image : Image) (places : Places) (nestings : Nestings) (i : ℕ)
     (op : CoreOp) where
-  -- All members commit in this cycle, and `behind` cycles later each is by itself in the root. All
-  -- control words are as they were.
-  abbrev pub EndTogether : (behind : ℕ) → (lowest size : ℕ) → Type 0
-  EndTogether behind lowest size =
+  -- All members commit in this cycle with this count, and `behind` cycles later each is by itself
+  -- in the root. All control words are as they were.
+  abbrev pub EndTogether : (count behind : ℕ) → (lowest size : ℕ) → Type 0
+  EndTogether count behind lowest size =
       (setting : Setting) (t : MachineSetting) (mine : Words) (first : ℕ) (ms : List Member)
       (ps : List Owner) (own : Memory)
       → OwnsHeader mine first
       → AllEnter core image places nestings i op End setting t None first ms ps
       → AreInStart nestings ps
-      → Together (core_source core setting) image mine t 1 0 ms ps own
+      → Together (core_source core setting) image mine t count 0 ms ps own
       (λ ms' ds own'. (ds ≡ map (is_due core i op End) ps)
       × (AllComeAlone places nestings setting image (later t) behind (λ p. Some setting.processors)
       root_words ms' (map (stepped core i op End (highest_value ps) lowest size) ps)

@@ -89,8 +89,8 @@ pub record Nestings : Type 0 where
   pub behind : (index : ℕ) → ℕ
   -- In how many parts the call is, with the group of `start` among them.
   pub nest : (index : ℕ) → ℕ
-  -- Whether a `fork` left the level with a number, the first of them having the number 0; and of
-  -- how many words is the frame of the group that it divided, if that group is a part of this call.
+  -- Whether a `fork` left the level with a number, the first of them having the number 0; and how
+  -- many words the frame of the group that it divided has, if that group is a part of this call.
   pub forks : (index level : ℕ) → Option ℕ
   -- Where processors meet that begin the group of `start`.
   pub start : Gathering
@@ -117,8 +117,8 @@ pub record HasLevel (memory : Memory) (at : ℕ) (level : Level) (outer : List L
   pub blocks : memory (at + 2) ≡ control_address level.space.blocks
   pub frames : memory (at + 3) ≡ control_address level.space.frames
 
--- The word of the header of a call where a `fork` that is in no part of this call saves the address
--- of the first control word after the frames.
+-- The word of the header of a call where a `fork` that leaves the first level of this call saves
+-- the address of the first control word after the frames.
 abbrev pub frames_word : (waiting : ℕ) → ℕ
 frames_word waiting = frame_end waiting - 60
 
@@ -131,8 +131,8 @@ HasFramesEnd memory header zero words level outer =
 HasFramesEnd memory header (suc n) words level outer =
     level.space.frames ≡ first_word level outer + 8 + words
 
--- Where a `fork` leaves a level, that also has `@` and `$`: the first beside the size, which is
--- below 2048, and the second in place of where the frames end.
+-- A level that a `fork` left has `@` and `$` too: the first beside the size, which is below 2048,
+-- and the second in place of where the frames end.
 pub record HasForked (memory : Memory) (header at number words : ℕ) (level : Level)
     (outer : List Level) : Type 0 where
   pub size : memory at ≡ level.size + 2048 * level.number

@@ -57,8 +57,8 @@ HasFrameWords zero told level = Unit {0}
 HasFrameWords (suc n) None level = ⊥
 HasFrameWords (suc n) (Some words) level = level.space.frames ≡ level.space.low + 8 + words
 
--- What a `fork` saves of a level has room: `@` and the size in one word. It is told how many words
--- the frames have taken.
+-- A `fork` saves `@` and the size in one word, where both have room. The next index tells how many
+-- words the frames of the group have taken.
 pub record IsToFork (nestings : Nestings) (p : Owner) : Type 0 where
   pub number : p.runner.has.level.number < 2 ^ 16
   pub size : p.runner.has.level.size ≤ 1024

@@ -67,7 +67,7 @@ coming_out t d v w member fresh is (inr ne) =
 -- one who has just committed may set out
 fresh_out : (t : Setting) (w : ℕ) (member : Bool) (s : Stage) → IsFresh t s → IsMemberAt w member s → SetsOut t.finished (absent member) (phase_of w member (Some s))
 fresh_out t w member Ended fresh is = sets_same t.finished (absent member)
-fresh_out t w member (Acts d) fresh is = sets_same t.finished (absent member)
+fresh_out t w member (Acts d inner) fresh is = sets_same t.finished (absent member)
 fresh_out t w member (Meets ending v (Coming d)) fresh is = coming_out t.finished d v w member fresh is (cases_eq v w)
 fresh_out t w member (Meets ending v f) fresh is = absurd (assumption fresh)
 
@@ -81,7 +81,7 @@ idle_by t d false member fresh = idle_absent t member
 
 fresh_idle : (t : Setting) (w : ℕ) (member : Bool) (s : Stage) → IsFresh t s → IsIdle t.finished (phase_of w member (Some s))
 fresh_idle t w member Ended fresh = idle_absent t.finished member
-fresh_idle t w member (Acts d) fresh = idle_absent t.finished member
+fresh_idle t w member (Acts d inner) fresh = idle_absent t.finished member
 fresh_idle t w member (Meets ending v (Coming d)) fresh = idle_by t.finished d (v == w) member fresh
 fresh_idle t w member (Meets ending v f) fresh = absurd (assumption fresh)
 
@@ -160,9 +160,9 @@ module _ {S P D : Type 0} (source : Source S P D) (image : Image) (plan : Plan) 
   stands_map : (t : Setting) (g : ℕ) (s : Stage) (m : Member) (p : P) → StaysOpen source image plan blocks plan' blocks' g → StaysMember plan' g m.number s
       → StandsAt source image plan blocks t g s m p → StandsAt source image plan' blocks' t g s m p
   stands_map t g Ended m p stays member x = x
-  stands_map t g (Acts d) m p stays member x = (
+  stands_map t g (Acts d inner) m p stays member x = (
     x.0,
-    does_map source image t 1 d x.0 m p (λ h y. blocks.AfterOne g x.0 (record m { hart = h }) p y) (λ h y. blocks'.AfterOne g x.0 (record m { hart = h }) p y)
+    does_map source image t (suc inner) d x.0 m p (λ h y. blocks.AfterOne g x.0 (record m { hart = h }) p y) (λ h y. blocks'.AfterOne g x.0 (record m { hart = h }) p y)
         (λ h y z. stays.after x.0 (record m { hart = h }) p y z) x.1,
   )
   stands_map t g (Meets ending w f) m p stays member x = (x.0, member.0, member.1, stays.stands t ending w f m p member.0 x.3)
@@ -224,39 +224,39 @@ module _ {S P D : Type 0} (source : Source S P D) (image : Image) (plan : Plan) 
 
   -- ---- groups
 
-  kept_change : (t : Setting) (d : ℕ) (m : Member) (n n' : ℕ) (a : Option Stage) (s' : Stage) (p p' : P) → a ≡ Some (Acts d)
-      → Changes source image plan blocks plan' blocks' t m n n' a s' p p' → (s' ≡ Acts d) × (p' ≡ p)
-  kept_change t d m n n' (Some s) s' p p' e change = let same : s ≡ Acts d = cc in (change.1 ∙ same, change.2)
-  kept_change t d m n n' None s' p p' e change = absurd (cc)
+  kept_change : (t : Setting) (d inner : ℕ) (m : Member) (n n' : ℕ) (a : Option Stage) (s' : Stage) (p p' : P) → a ≡ Some (Acts d inner)
+      → Changes source image plan blocks plan' blocks' t m n n' a s' p p' → (s' ≡ Acts d inner) × (p' ≡ p)
+  kept_change t d inner m n n' (Some s) s' p p' e change = let same : s ≡ Acts d inner = cc in (change.1 ∙ same, change.2)
+  kept_change t d inner m n n' None s' p p' e change = absurd (cc)
 
-  act_add : (d : ℕ) (b : Bool) (s : Stage) (stages : List Stage) (m : Member) (ms : List Member) (p : P) (ps : List P) → (b ≡ true → s ≡ Acts d)
-      → AllAct source image plan' blocks' d stages ms ps → AllAct source image plan' blocks' d (add b s stages) (add b m ms) (add b p ps)
-  act_add d true s stages m ms p ps one all = (one refl, all)
-  act_add d false s stages m ms p ps one all = all
+  act_add : (d inner : ℕ) (b : Bool) (s : Stage) (stages : List Stage) (m : Member) (ms : List Member) (p : P) (ps : List P) → (b ≡ true → s ≡ Acts d inner)
+      → AllAct source image plan' blocks' d inner stages ms ps → AllAct source image plan' blocks' d inner (add b s stages) (add b m ms) (add b p ps)
+  act_add d inner true s stages m ms p ps one all = (one refl, all)
+  act_add d inner false s stages m ms p ps one all = all
 
-  group_alike : (t : Setting) (d g : ℕ) (ms : List Member) (ns ns' : List ℕ) (afters : List (Option Stage)) (stages' : List Stage) (ps ps' : List P)
-      → AllChange source image plan blocks plan' blocks' t ms ns ns' afters stages' ps ps' → AllKeep (Acts d) (of_node g ns afters)
-      → AllAct source image plan' blocks' d (of_node g ns stages') (of_node g ns ms) (of_node g ns ps')
-  group_alike t d g [] [] [] [] [] [] [] change keep = tt
-  group_alike t d g (m ∷ ms) (n ∷ ns) (n' ∷ ns') (a ∷ afters) (s' ∷ stages') (p ∷ ps) (p' ∷ ps') change keep =
-      act_add d (n == g) s' (of_node g ns stages') m (of_node g ns ms) p' (of_node g ns ps')
-      (λ e. (kept_change t d m n n' a s' p p' (keep_first (Acts d) (n == g) a (of_node g ns afters) keep e) change.0).0)
-      (group_alike t d g ms ns ns' afters stages' ps ps' change.1 (keep_rest (Acts d) (n == g) a (of_node g ns afters) keep))
-  group_alike t d g ms ns ns' afters stages' ps ps' change keep = absurd (assumption change)
+  group_alike : (t : Setting) (d inner g : ℕ) (ms : List Member) (ns ns' : List ℕ) (afters : List (Option Stage)) (stages' : List Stage) (ps ps' : List P)
+      → AllChange source image plan blocks plan' blocks' t ms ns ns' afters stages' ps ps' → AllKeep (Acts d inner) (of_node g ns afters)
+      → AllAct source image plan' blocks' d inner (of_node g ns stages') (of_node g ns ms) (of_node g ns ps')
+  group_alike t d inner g [] [] [] [] [] [] [] change keep = tt
+  group_alike t d inner g (m ∷ ms) (n ∷ ns) (n' ∷ ns') (a ∷ afters) (s' ∷ stages') (p ∷ ps) (p' ∷ ps') change keep =
+      act_add d inner (n == g) s' (of_node g ns stages') m (of_node g ns ms) p' (of_node g ns ps')
+      (λ e. (kept_change t d inner m n n' a s' p p' (keep_first (Acts d inner) (n == g) a (of_node g ns afters) keep e) change.0).0)
+      (group_alike t d inner g ms ns ns' afters stages' ps ps' change.1 (keep_rest (Acts d inner) (n == g) a (of_node g ns afters) keep))
+  group_alike t d inner g ms ns ns' afters stages' ps ps' change keep = absurd (assumption change)
 
   same_add : (b : Bool) (p p' : P) (ps ps' : List P) → (b ≡ true → p' ≡ p) → ps' ≡ ps → add b p' ps' ≡ add b p ps
   same_add true p p' ps ps' one e = ap (λ q. q ∷ ps') (one refl) ∙ ap (λ l. p ∷ l) e
   same_add false p p' ps ps' one e = e
 
-  group_same : (t : Setting) (d g : ℕ) (ms : List Member) (ns ns' : List ℕ) (afters : List (Option Stage)) (stages' : List Stage) (ps ps' : List P)
-      → AllChange source image plan blocks plan' blocks' t ms ns ns' afters stages' ps ps' → AllKeep (Acts d) (of_node g ns afters)
+  group_same : (t : Setting) (d inner g : ℕ) (ms : List Member) (ns ns' : List ℕ) (afters : List (Option Stage)) (stages' : List Stage) (ps ps' : List P)
+      → AllChange source image plan blocks plan' blocks' t ms ns ns' afters stages' ps ps' → AllKeep (Acts d inner) (of_node g ns afters)
       → of_node g ns ps' ≡ of_node g ns ps
-  group_same t d g [] [] [] [] [] [] [] change keep = refl
-  group_same t d g (m ∷ ms) (n ∷ ns) (n' ∷ ns') (a ∷ afters) (s' ∷ stages') (p ∷ ps) (p' ∷ ps') change keep =
+  group_same t d inner g [] [] [] [] [] [] [] change keep = refl
+  group_same t d inner g (m ∷ ms) (n ∷ ns) (n' ∷ ns') (a ∷ afters) (s' ∷ stages') (p ∷ ps) (p' ∷ ps') change keep =
       same_add (n == g) p p' (of_node g ns ps) (of_node g ns ps')
-      (λ e. (kept_change t d m n n' a s' p p' (keep_first (Acts d) (n == g) a (of_node g ns afters) keep e) change.0).1)
-      (group_same t d g ms ns ns' afters stages' ps ps' change.1 (keep_rest (Acts d) (n == g) a (of_node g ns afters) keep))
-  group_same t d g ms ns ns' afters stages' ps ps' change keep = absurd (assumption change)
+      (λ e. (kept_change t d inner m n n' a s' p p' (keep_first (Acts d inner) (n == g) a (of_node g ns afters) keep e) change.0).1)
+      (group_same t d inner g ms ns ns' afters stages' ps ps' change.1 (keep_rest (Acts d inner) (n == g) a (of_node g ns afters) keep))
+  group_same t d inner g ms ns ns' afters stages' ps ps' change keep = absurd (assumption change)
 
   length_add : {A B : Type 0} (b : Bool) (x : A) (xs : List A) (y : B) (ys : List B) → length xs ≡ length ys → length (add b x xs) ≡ length (add b y ys)
   length_add true x xs y ys e = ap suc e
@@ -279,17 +279,18 @@ module _ {S P D : Type 0} (source : Source S P D) (image : Image) (plan : Plan) 
       → NodeIsLeft source image plan blocks true t g (of_node g plan.nodes afters) (of_node g plan.nodes ms) (of_node g plan.nodes ps) ds own
       → InLockstep source image plan' blocks' t g (of_node g plan'.nodes stages') (of_node g plan'.nodes ms) (of_node g plan'.nodes ps') control
   group_stays t g ms afters stages' ps ps' ds own control change stays has (inl x) = absurd (stays.busy x.0)
-  group_stays t g ms afters stages' ps ps' ds own control change stays has (inr (d, keep, idle, together)) =
+  group_stays t g ms afters stages' ps ps' ds own control change stays has (inr (d, inner, keep, idle, together)) =
       let ns = plan.nodes in
       let some : length (of_node g ns ms) ≡ 0 → ⊥ = λ e. stays.busy (none_left (of_node g ns afters) (length_of t g ms ns plan'.nodes afters stages' ps ps' change ∙ e)) in
-      let goes = together_map source image (plan.words g) t 1 d (of_node g ns ms) (of_node g ns ps) control (blocks.AfterAll (later (in_cycles d t)) g) (blocks'.AfterAll (later (in_cycles d t)) g) (stays.after (later (in_cycles d t)))
-      (together_on source image (plan.words g) t 1 d (of_node g ns ms) (of_node g ns ps) own control (blocks.AfterAll (later (in_cycles d t)) g) some (λ i o. sym (has i o)) together) in
+      let goes = together_map source image (plan.words g) t (suc inner) d (of_node g ns ms) (of_node g ns ps) control (blocks.AfterAll (later (in_cycles d t)) g) (blocks'.AfterAll (later (in_cycles d t)) g) (stays.after (later (in_cycles d t)))
+      (together_on source image (plan.words g) t (suc inner) d (of_node g ns ms) (of_node g ns ps) own control (blocks.AfterAll (later (in_cycles d t)) g) some (λ i o. sym (has i o)) together) in
       let here : InLockstep source image plan' blocks' t g (of_node g ns stages') (of_node g ns ms) (of_node g ns ps') control = record {
         distance = d;
-        alike = group_alike t d g ms ns plan'.nodes afters stages' ps ps' change keep;
+        inner = inner;
+        alike = group_alike t d inner g ms ns plan'.nodes afters stages' ps ps' change keep;
         together =
-            subst (λ l. Together source image (plan'.words g) t 1 d (of_node g ns ms) l control (blocks'.AfterAll (later (in_cycles d t)) g)) (sym (group_same t d g ms ns plan'.nodes afters stages' ps ps' change keep))
-            (subst (λ w. Together source image w t 1 d (of_node g ns ms) (of_node g ns ps) control (blocks'.AfterAll (later (in_cycles d t)) g)) (sym stays.words) goes);
+            subst (λ l. Together source image (plan'.words g) t (suc inner) d (of_node g ns ms) l control (blocks'.AfterAll (later (in_cycles d t)) g)) (sym (group_same t d inner g ms ns plan'.nodes afters stages' ps ps' change keep))
+            (subst (λ w. Together source image w t (suc inner) d (of_node g ns ms) (of_node g ns ps) control (blocks'.AfterAll (later (in_cycles d t)) g)) (sym stays.words) goes);
       } in
       subst (λ l. InLockstep source image plan' blocks' t g l (of_node g plan'.nodes ms) (of_node g plan'.nodes ps') control) (sym (same_of g ns plan'.nodes stages' stays.same))
       (subst (λ l. InLockstep source image plan' blocks' t g (of_node g ns stages') l (of_node g plan'.nodes ps') control) (sym (same_of g ns plan'.nodes ms stays.same))
@@ -299,7 +300,7 @@ module _ {S P D : Type 0} (source : Source S P D) (image : Image) (plan : Plan) 
 
   at_member : (t : Setting) (w : ℕ) (m : Member) (g : ℕ) (s' : Stage) (p' : P) → StandsAt source image plan' blocks' t g s' m p' → IsMemberAt w (plan'.member w m.number) s'
   at_member t w m g Ended p' stands = tt
-  at_member t w m g (Acts d) p' stands = tt
+  at_member t w m g (Acts d inner) p' stands = tt
   at_member t w m g (Meets ending v f) p' stands = λ e. subst (λ k. plan'.member k m.number ≡ true) e stands.2
 
   out_one : (t : Setting) (g w : ℕ) (m : Member) (n n' : ℕ) (a : Option Stage) (s' : Stage) (p p' : P) → Changes source image plan blocks plan' blocks' t m n n' a s' p p'
@@ -364,7 +365,7 @@ module _ {S P D : Type 0} (source : Source S P D) (image : Image) (plan : Plan) 
     where
       over_near : (s : Stage) (d' : Option ℕ) → IsOver s → Nears (distance s) d'
       over_near Ended d' over = tt
-      over_near (Acts d) d' over = subst (λ x. Nears x d') (sym over) tt
+      over_near (Acts d inner) d' over = subst (λ x. Nears x d') (sym over) tt
       over_near (Meets Commits w f) d' over = subst (λ x. Nears x d') (sym over) tt
       over_near (Meets Unites w f) d' over = subst (λ x. Nears (distance (Meets Unites w x)) d') (sym over) tt
   near_one s (Some s1) s' stays keeps = subst (λ x. Nears (distance s) (distance x)) (sym keeps) stays.1
@@ -440,5 +441,5 @@ plans_go_on S P D source image plan plan' tests tests' t stages stages' hs hs' p
     plan_goes_on source image plan (told_by tests) plan' (told_by tests') t stages stages' hs hs' ps ps' ds own own' control few bound left has changes
 
 pub runs_lead_to_stages : (S P D : Type 0) → RunsLeadToStages S P D
-runs_lead_to_stages S P D source image plan tests t g cycles d m hart p runs stands =
-    (stands.0, does_later source image t 1 d stands.0 cycles m hart p (λ h x. tests.after_one g stands.0 (record m { hart = h }) p x ≡ true) runs stands.1)
+runs_lead_to_stages S P D source image plan tests t g cycles d inner m hart p runs stands =
+    (stands.0, does_later source image t (suc inner) d stands.0 cycles m hart p (λ h x. tests.after_one g stands.0 (record m { hart = h }) p x ≡ true) runs stands.1)

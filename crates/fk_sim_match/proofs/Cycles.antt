@@ -27,40 +27,40 @@ AllCounted image stages ms = ⊥
 module _ {S P D : Type 0} (source : Source S P D) (image : Image) (plan : Plan) (blocks : Blocks P D) where
   -- ---- a group in lockstep
 
-  act_in : (d : ℕ) (stages : List Stage) (ms : List Member) (ps : List P) → AllAct source image plan blocks d stages ms ps → AllActIn source image plan blocks d stages
-  act_in d [] [] [] all = tt
-  act_in d (s ∷ stages) (m ∷ ms) (p ∷ ps) all = (all.0, act_in d stages ms ps all.1)
-  act_in d stages ms ps all = absurd (assumption all)
+  act_in : (d inner : ℕ) (stages : List Stage) (ms : List Member) (ps : List P) → AllAct source image plan blocks d inner stages ms ps → AllActIn source image plan blocks d inner stages
+  act_in d inner [] [] [] all = tt
+  act_in d inner (s ∷ stages) (m ∷ ms) (p ∷ ps) all = (all.0, act_in d inner stages ms ps all.1)
+  act_in d inner stages ms ps all = absurd (assumption all)
 
-  act_many : (d : ℕ) (stages : List Stage) (ms : List Member) (ps : List P) → AllAct source image plan blocks d stages ms ps → length ms ≡ length ps
-  act_many d [] [] [] all = refl
-  act_many d (s ∷ stages) (m ∷ ms) (p ∷ ps) all = ap suc (act_many d stages ms ps all.1)
-  act_many d stages ms ps all = absurd (assumption all)
+  act_many : (d inner : ℕ) (stages : List Stage) (ms : List Member) (ps : List P) → AllAct source image plan blocks d inner stages ms ps → length ms ≡ length ps
+  act_many d inner [] [] [] all = refl
+  act_many d inner (s ∷ stages) (m ∷ ms) (p ∷ ps) all = ap suc (act_many d inner stages ms ps all.1)
+  act_many d inner stages ms ps all = absurd (assumption all)
 
-  act_counted : (d : ℕ) (stages : List Stage) (ms : List Member) (ps : List P) → AllAct source image plan blocks d stages ms ps → AllCount image (count_of_stage (Acts d)) ms
+  act_counted : (d inner : ℕ) (stages : List Stage) (ms : List Member) (ps : List P) → AllAct source image plan blocks d inner stages ms ps → AllCount image (count_of_stage (Acts d inner)) ms
       → AllCounted image stages ms
-  act_counted d [] [] [] all counted = tt
-  act_counted d (s ∷ stages) (m ∷ ms) (p ∷ ps) all counted =
-      (counted.0 ∙ ap count_of_stage (sym all.0), act_counted d stages ms ps all.1 counted.1)
-  act_counted d stages ms ps all counted = absurd (assumption all)
+  act_counted d inner [] [] [] all counted = tt
+  act_counted d inner (s ∷ stages) (m ∷ ms) (p ∷ ps) all counted =
+      (counted.0 ∙ ap count_of_stage (sym all.0), act_counted d inner stages ms ps all.1 counted.1)
+  act_counted d inner stages ms ps all counted = absurd (assumption all)
 
-  group_chain : (t : Setting) (g d : ℕ) (stages : List Stage) (ms : List Member) (ps : List P) (own : Memory) → IsIdle source blocks.idle → AreApart (plan.words g) source.common
-      → AllAct source image plan blocks d stages ms ps → Together source image (plan.words g) t 1 d ms ps own (blocks.AfterAll (later (in_cycles d t)) g)
+  group_chain : (t : Setting) (g d inner : ℕ) (stages : List Stage) (ms : List Member) (ps : List P) (own : Memory) → IsIdle source blocks.idle → AreApart (plan.words g) source.common
+      → AllAct source image plan blocks d inner stages ms ps → Together source image (plan.words g) t (suc inner) d ms ps own (blocks.AfterAll (later (in_cycles d t)) g)
       → Chain source image (plan.words g) t ms ps own (Done source image plan blocks true t g stages ps own)
-  group_chain t g zero stages ms ps own idle apart all x =
+  group_chain t g zero inner stages ms ps own idle apart all x =
       chain_map source image (plan.words g) t ms ps own (blocks.AfterAll (later t) g) (Done source image plan blocks true t g stages ps own)
-      (λ ms' ds own' y. (0, act_in 0 stages ms ps all, y)) x.chain
-  group_chain t g (suc d) stages ms ps own idle apart all x =
-      chain_map source image (plan.words g) t ms ps own (GroupDone source image plan blocks (later t) g (suc d) ps) (Done source image plan blocks true t g stages ps own)
-      (λ ms' ds own' y. (suc d, act_in (suc d) stages ms ps all, y))
-      (nearer source image (plan.words g) t 1 d blocks.idle ms ps own (blocks.AfterAll (later (in_cycles (suc d) t)) g) apart idle (act_many (suc d) stages ms ps all) x).chain
+      (λ ms' ds own' y. (0, inner, act_in 0 inner stages ms ps all, y)) x.chain
+  group_chain t g (suc d) inner stages ms ps own idle apart all x =
+      chain_map source image (plan.words g) t ms ps own (GroupDone source image plan blocks (later t) g inner (suc d) ps) (Done source image plan blocks true t g stages ps own)
+      (λ ms' ds own' y. (suc d, inner, act_in (suc d) inner stages ms ps all, y))
+      (nearer source image (plan.words g) t (suc inner) d blocks.idle ms ps own (blocks.AfterAll (later (in_cycles (suc d) t)) g) apart idle (act_many (suc d) inner stages ms ps all) x).chain
 
-  group_counted : (t : Setting) (g d : ℕ) (stages : List Stage) (ms : List Member) (ps : List P) (own : Memory) → IsIdle source blocks.idle → AreApart (plan.words g) source.common
-      → AllAct source image plan blocks d stages ms ps → Together source image (plan.words g) t 1 d ms ps own (blocks.AfterAll (later (in_cycles d t)) g) → AllCounted image stages ms
-  group_counted t g zero stages ms ps own idle apart all x = act_counted 0 stages ms ps all x.counted
-  group_counted t g (suc d) stages ms ps own idle apart all x =
-      act_counted (suc d) stages ms ps all
-      (nearer source image (plan.words g) t 1 d blocks.idle ms ps own (blocks.AfterAll (later (in_cycles (suc d) t)) g) apart idle (act_many (suc d) stages ms ps all) x).counted
+  group_counted : (t : Setting) (g d inner : ℕ) (stages : List Stage) (ms : List Member) (ps : List P) (own : Memory) → IsIdle source blocks.idle → AreApart (plan.words g) source.common
+      → AllAct source image plan blocks d inner stages ms ps → Together source image (plan.words g) t (suc inner) d ms ps own (blocks.AfterAll (later (in_cycles d t)) g) → AllCounted image stages ms
+  group_counted t g zero inner stages ms ps own idle apart all x = act_counted 0 inner stages ms ps all x.counted
+  group_counted t g (suc d) inner stages ms ps own idle apart all x =
+      act_counted (suc d) inner stages ms ps all
+      (nearer source image (plan.words g) t (suc inner) d blocks.idle ms ps own (blocks.AfterAll (later (in_cycles (suc d) t)) g) apart idle (act_many (suc d) inner stages ms ps all) x).counted
 
   -- ---- members by themselves
 
@@ -76,13 +76,13 @@ module _ {S P D : Type 0} (source : Source S P D) (image : Image) (plan : Plan) 
   pub node_chain : (b : Bool) (t : Setting) (g : ℕ) (stages : List Stage) (ms : List Member) (ps : List P) (own : Memory) → IsIdle source blocks.idle → JointBlocksTurn source image plan blocks
       → AreApart (plan.words g) source.common → Binds source image plan blocks b t g stages ms ps own
       → Chain source image (plan.words g) t ms ps own (Done source image plan blocks b t g stages ps own)
-  node_chain true t g stages ms ps own idle joint apart x = group_chain t g x.distance stages ms ps own idle apart x.alike x.together
+  node_chain true t g stages ms ps own idle joint apart x = group_chain t g x.distance x.inner stages ms ps own idle apart x.alike x.together
   node_chain false t g stages ms ps own idle joint apart x =
       stages_chain source image plan blocks t g stages ms ps own (HaveMoved source image plan blocks t g stages ps own) idle joint apart x (λ ms' ds own' moved. moved)
 
   node_counted : (b : Bool) (t : Setting) (g : ℕ) (stages : List Stage) (ms : List Member) (ps : List P) (own : Memory) → IsIdle source blocks.idle → JointBlocksTurn source image plan blocks
       → AreApart (plan.words g) source.common → Binds source image plan blocks b t g stages ms ps own → AllCounted image stages ms
-  node_counted true t g stages ms ps own idle joint apart x = group_counted t g x.distance stages ms ps own idle apart x.alike x.together
+  node_counted true t g stages ms ps own idle joint apart x = group_counted t g x.distance x.inner stages ms ps own idle apart x.alike x.together
   node_counted false t g stages ms ps own idle joint apart x = stages_counted t g stages ms ps joint x
 
   -- ---- all nodes

@@ -130,24 +130,24 @@ module _ (image : Image) (code : HasLoop image) where
   nobody_meets plan t g e w f m p own inside is_open stands = absurd stands
 
   free_at : (t : Setting) (p q g : ℕ) → Holds image t
-      → AllStandAt counting image free blocks t g (of_node g two (Acts 1 ∷ Acts 0 ∷ [])) (of_node g two (numbered 0 (hart_at 0 ∷ hart_at 4 ∷ []))) (of_node g two (p ∷ q ∷ []))
+      → AllStandAt counting image free blocks t g (of_node g two (Acts 1 0 ∷ Acts 0 0 ∷ [])) (of_node g two (numbered 0 (hart_at 0 ∷ hart_at 4 ∷ []))) (of_node g two (p ∷ q ∷ []))
   free_at t p q zero holds =
       ((0, does_at t 0 p 1 (hart_at 0) holds (hart_at 4, begins t 0 holds, refl)), ((0, does_at t 1 q 0 (hart_at 4) holds refl), tt))
   free_at t p q (suc g) holds = rw (ne_eqb 0 (suc g) (λ e. omega arith)) tt
 
   free_bound : (t : Setting) (p q : ℕ) (own : ℕ → Memory) → Holds image t
-      → IsBound counting image free blocks t (Acts 1 ∷ Acts 0 ∷ []) (hart_at 0 ∷ hart_at 4 ∷ []) (p ∷ q ∷ []) own
+      → IsBound counting image free blocks t (Acts 1 0 ∷ Acts 0 0 ∷ []) (hart_at 0 ∷ hart_at 4 ∷ []) (p ∷ q ∷ []) own
   free_bound t p q own holds =
       record { as_many = tt; stages_as_many = tt; binds = λ g. free_at t p q g holds; counts = λ g w alone is_open. absurd (let e = is_open.1 in cc) }
 
   next_stage : (t : Setting) (a : Option Stage) (m : Member) (p d : ℕ) → Went counting image free blocks t 0 a m p d → Stage
   next_stage t (Some s) m p d went = s
-  next_stage t None m p d (inl went) = Acts (suc went.0)
+  next_stage t None m p d (inl went) = Acts (suc went.0) 0
   next_stage t None m p d (inr went) = absurd went.1
 
   still_member : (t : Setting) (s : Stage) (m : Member) (p : ℕ) → StandsAt counting image free blocks t 0 s m p → StaysMember free 0 m.number s
   still_member t Ended m p stands = tt
-  still_member t (Acts d) m p stands = tt
+  still_member t (Acts d inner) m p stands = tt
   still_member t (Meets e w f) m p stands = (stands.1, stands.2)
 
   free_changes : (t : Setting) (a : Option Stage) (m : Member) (p d : ℕ) → Holds image t → (went : Went counting image free blocks t 0 a m p d)
@@ -185,12 +185,12 @@ module _ (image : Image) (code : HasLoop image) where
 
   -- whatever a cycle leaves of them, they are bound again
   free_go_on : (t : Setting) (p q : ℕ) (hs' : List Hart) (ds : List ℕ) (own own' : ℕ → Memory) (control : Memory) → Holds image t
-      → IsLeft counting image free blocks t (Acts 1 ∷ Acts 0 ∷ []) hs' (p ∷ q ∷ []) ds own own'
-      → (stages' : List Stage) × GoesOn counting image free blocks free blocks t (Acts 1 ∷ Acts 0 ∷ []) stages' hs' ds own control
+      → IsLeft counting image free blocks t (Acts 1 0 ∷ Acts 0 0 ∷ []) hs' (p ∷ q ∷ []) ds own own'
+      → (stages' : List Stage) × GoesOn counting image free blocks free blocks t (Acts 1 0 ∷ Acts 0 0 ∷ []) stages' hs' ds own control
   free_go_on t p q hs' ds own own' control holds left =
       let tree = free_tree t p q hs' left.afters ds control holds (lengths two hs' left.afters left.as_many).0 (lengths two hs' left.afters left.as_many).1 (lengths two hs' ds left.done_as_many).1 (left.nodes 0) in (
         tree.0,
-        plan_goes_on counting image free blocks free blocks t (Acts 1 ∷ Acts 0 ∷ []) tree.0 (hart_at 0 ∷ hart_at 4 ∷ []) hs' (p ∷ q ∷ []) ds ds own own' control (omega arith)
+        plan_goes_on counting image free blocks free blocks t (Acts 1 0 ∷ Acts 0 0 ∷ []) tree.0 (hart_at 0 ∷ hart_at 4 ∷ []) hs' (p ∷ q ∷ []) ds ds own own' control (omega arith)
             (free_bound t p q own holds) left (λ g i owns. absurd (cc)) tree.1,
       )
 
@@ -231,7 +231,7 @@ module _ (image : Image) (code : HasLoop image) where
       (each_does counting image (groups.words g) t 1 n 0 (λ number p h d. h ≡ hart_at 0) ms ps own (groups_apart.from_common g) each)
 
   abbrev first_stages : List Stage
-  first_stages = Acts 1 ∷ Acts 1 ∷ Acts 0 ∷ Acts 0 ∷ []
+  first_stages = Acts 1 0 ∷ Acts 1 0 ∷ Acts 0 0 ∷ Acts 0 0 ∷ []
 
   abbrev first_harts : List Hart
   first_harts = hart_at 0 ∷ hart_at 0 ∷ hart_at 4 ∷ hart_at 4 ∷ []
@@ -241,12 +241,14 @@ module _ (image : Image) (code : HasLoop image) where
   groups_at t p q r u zero own holds = tt
   groups_at t p q r u (suc zero) own holds = record {
     distance = 1;
+    inner = 0;
     alike = (refl, (refl, tt));
     together = group_does t 1 1 (record { number = 0; hart = hart_at 0 } ∷ record { number = 1; hart = hart_at 0 } ∷ []) (p ∷ q ∷ []) own
         (does_at t 0 p 1 (hart_at 0) holds (hart_at 4, begins t 0 holds, refl), (does_at t 1 q 1 (hart_at 0) holds (hart_at 4, begins t 1 holds, refl), tt));
   }
   groups_at t p q r u (suc (suc zero)) own holds = record {
     distance = 0;
+    inner = 0;
     alike = (refl, (refl, tt));
     together = group_does t 2 0 (record { number = 2; hart = hart_at 4 } ∷ record { number = 3; hart = hart_at 4 } ∷ []) (r ∷ u ∷ []) own
         (does_at t 2 r 0 (hart_at 4) holds refl, (does_at t 3 u 0 (hart_at 4) holds refl, tt));
@@ -273,35 +275,36 @@ module _ (image : Image) (code : HasLoop image) where
   begins_again t m p holds at =
       does_at t m.number p 1 m.hart holds (subst (λ h. RunsPrivately image t m.number 1 h (hart_at 4)) (sym at) (hart_at 4, begins t m.number holds, refl))
 
-  has_committed : (t : Setting) (g : ℕ) (a : Option Stage) (m : Member) (p d : ℕ) → is_group g ≡ true → a ≡ None → Changes counting image groups blocks groups blocks t m g g a (Acts 1) p d
+  has_committed : (t : Setting) (g : ℕ) (a : Option Stage) (m : Member) (p d : ℕ) → is_group g ≡ true → a ≡ None → Changes counting image groups blocks groups blocks t m g g a (Acts 1 0) p d
   has_committed t g None m p d group e = (tt, λ alone. never_alone (is_group g) group alone)
   has_committed t g (Some s) m p d group e = absurd (cc)
 
-  keeps_on : (t : Setting) (g k : ℕ) (a : Option Stage) (m : Member) (p d : ℕ) → is_group g ≡ true → a ≡ Some (Acts k) → d ≡ p
-      → Changes counting image groups blocks groups blocks t m g g a (Acts k) p d
-  keeps_on t g k (Some s) m p d group e f = let same : Acts k ≡ s = cc in (refl, same, f, subst (StaysMember groups g m.number) same tt, λ alone. never_alone (is_group g) group alone)
-  keeps_on t g k None m p d group e f = absurd (cc)
+  keeps_on : (t : Setting) (g k inner : ℕ) (a : Option Stage) (m : Member) (p d : ℕ) → is_group g ≡ true → a ≡ Some (Acts k inner) → d ≡ p
+      → Changes counting image groups blocks groups blocks t m g g a (Acts k inner) p d
+  keeps_on t g k inner (Some s) m p d group e f = let same : Acts k inner ≡ s = cc in (refl, same, f, subst (StaysMember groups g m.number) same tt, λ alone. never_alone (is_group g) group alone)
+  keeps_on t g k inner None m p d group e f = absurd (cc)
 
   group_next : (t : Setting) (g : ℕ) (afters : List (Option Stage)) (a b : Option Stage) (m n : Member) (p q d e : ℕ) (own control : Memory) → Holds image t → is_group g ≡ true
       → (AllHaveCommitted (of_node g four afters) → a ≡ None)
       → GroupIsLeft counting image groups blocks t g (a ∷ b ∷ []) (m ∷ n ∷ []) (p ∷ q ∷ []) (d ∷ e ∷ []) own → GroupNext t g afters a b m n p q d e control
   group_next t g afters a b m n p q d e own control holds group here (inl (committed, all)) = record {
-    stage = Acts 1;
+    stage = Acts 1 0;
     one = has_committed t g a m p d group committed.0;
     other = has_committed t g b n q e group committed.1.0;
     goes = inr (record {
       distance = 1;
+      inner = 0;
       alike = (refl, (refl, tt));
       together = group_does t g 1 (m ∷ n ∷ []) (d ∷ e ∷ []) control (begins_again t m d holds all.0, (begins_again t n e holds all.1.0, tt));
     });
   }
-  group_next t g afters a b m n p q d e own control holds group here (inr (k, keep, same, together)) =
+  group_next t g afters a b m n p q d e own control holds group here (inr (k, inner, keep, same, together)) =
       let f : d ≡ p = cc in
       let f' : e ≡ q = cc in
       record {
-        stage = Acts k;
-        one = keeps_on t g k a m p d group keep.0 f;
-        other = keeps_on t g k b n q e group keep.1.0 f';
+        stage = Acts k inner;
+        one = keeps_on t g k inner a m p d group keep.0 f;
+        other = keeps_on t g k inner b n q e group keep.1.0 f';
         goes = inl (record {
           grouped = group;
           busy = λ committed. let none = here committed in let some = keep.0 in absurd (cc);

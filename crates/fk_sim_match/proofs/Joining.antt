@@ -56,7 +56,7 @@ module _ {S P D : Type 0} (source : Source S P D) (image : Image) (plan : Plan) 
 
   stand_one : (t : MachineSetting) (g : ℕ) (s : Stage) (m : Member) (p : P) → StandsAt source image plan blocks t g s m p → StandsAt source image plan joining t g s m p
   stand_one t g Ended m p x = x
-  stand_one t g (Acts d) m p x = x
+  stand_one t g (Acts d inner) m p x = x
   stand_one t g (Meets e w f) m p x = x
 
   all_stand : (t : MachineSetting) (g : ℕ) (stages : List Stage) (ms : List Member) (ps : List P) → AllStandAt source image plan blocks t g stages ms ps
@@ -65,14 +65,14 @@ module _ {S P D : Type 0} (source : Source S P D) (image : Image) (plan : Plan) 
   all_stand t g (s ∷ stages) (m ∷ ms) (p ∷ ps) x = (stand_one t g s m p x.0, all_stand t g stages ms ps x.1)
   all_stand t g stages ms ps x = absurd (assumption x)
 
-  all_act : (d : ℕ) (stages : List Stage) (ms : List Member) (ps : List P) → AllAct source image plan blocks d stages ms ps → AllAct source image plan joining d stages ms ps
-  all_act d [] [] [] x = tt
-  all_act d (s ∷ stages) (m ∷ ms) (p ∷ ps) x = (x.0, all_act d stages ms ps x.1)
-  all_act d stages ms ps x = absurd (assumption x)
+  all_act : (d inner : ℕ) (stages : List Stage) (ms : List Member) (ps : List P) → AllAct source image plan blocks d inner stages ms ps → AllAct source image plan joining d inner stages ms ps
+  all_act d inner [] [] [] x = tt
+  all_act d inner (s ∷ stages) (m ∷ ms) (p ∷ ps) x = (x.0, all_act d inner stages ms ps x.1)
+  all_act d inner stages ms ps x = absurd (assumption x)
 
   binds : (b : Bool) (t : MachineSetting) (g : ℕ) (stages : List Stage) (ms : List Member) (ps : List P) (own : Memory) → Binds source image plan blocks b t g stages ms ps own
       → Binds source image plan joining b t g stages ms ps own
-  binds true t g stages ms ps own x = record { distance = x.distance; alike = all_act x.distance stages ms ps x.alike; together = x.together }
+  binds true t g stages ms ps own x = record { distance = x.distance; inner = x.inner; alike = all_act x.distance x.inner stages ms ps x.alike; together = x.together }
   binds false t g stages ms ps own x = all_stand t g stages ms ps x
 
   -- they bind harts alike
@@ -91,8 +91,8 @@ module _ {S P D : Type 0} (source : Source S P D) (image : Image) (plan : Plan) 
   went_over : (t : MachineSetting) (g : ℕ) (s : Stage) (m : Member) (p : P) (d : D) → IsOver s → unites_now s ≡ false → Leaves source image plan blocks t g s m p d
       → Went source image plan joining t g None m p d
   went_over t g Ended m p d over nobody leaves = absurd (cc)
-  went_over t g (Acts zero) m p d over nobody leaves = inl leaves
-  went_over t g (Acts (suc k)) m p d over nobody leaves = absurd (cc)
+  went_over t g (Acts zero inner) m p d over nobody leaves = inl leaves
+  went_over t g (Acts (suc k) inner) m p d over nobody leaves = absurd (cc)
   went_over t g (Meets Commits w Outside) m p d over nobody leaves = absurd (cc)
   went_over t g (Meets Commits w Away) m p d over nobody leaves = absurd (cc)
   went_over t g (Meets Commits w (Coming k)) m p d over nobody leaves = absurd (cc)
@@ -109,8 +109,8 @@ module _ {S P D : Type 0} (source : Source S P D) (image : Image) (plan : Plan) 
   leaves_apart : (t : MachineSetting) (g : ℕ) (s : Stage) (m : Member) (p : P) (d : D) → unites_now s ≡ false → Leaves source image plan blocks t g s m p d
       → Leaves source image plan joining t g s m p d
   leaves_apart t g Ended m p d nobody leaves = tt
-  leaves_apart t g (Acts zero) m p d nobody leaves = leaves
-  leaves_apart t g (Acts (suc k)) m p d nobody leaves = tt
+  leaves_apart t g (Acts zero inner) m p d nobody leaves = leaves
+  leaves_apart t g (Acts (suc k) inner) m p d nobody leaves = tt
   leaves_apart t g (Meets e w Outside) m p d nobody leaves = tt
   leaves_apart t g (Meets e w Away) m p d nobody leaves = tt
   leaves_apart t g (Meets e w (Coming k)) m p d nobody leaves = tt

@@ -174,37 +174,37 @@ module _ {S P D : Type 0} (source : Source S P D) (image : Image) (plan : Plan) 
   committed [] = tt
   committed (s ∷ stages) = (refl, committed stages)
 
-  keep : (d : ℕ) (stages : List Stage) → AllKeep (Acts d) (all_are (Some (Acts d)) stages)
-  keep d [] = tt
-  keep d (s ∷ stages) = (refl, keep d stages)
+  keep : (d inner : ℕ) (stages : List Stage) → AllKeep (Acts d inner) (all_are (Some (Acts d inner)) stages)
+  keep d inner [] = tt
+  keep d inner (s ∷ stages) = (refl, keep d inner stages)
 
-  stay_none : (stages : List Stage) → AllActIn source image plan blocks 0 stages → Pairwise Remains stages (all_are None stages)
-  stay_none [] all = tt
-  stay_none (s ∷ stages) all = (subst IsOver (sym all.0) refl, stay_none stages all.1)
+  stay_none : (inner : ℕ) (stages : List Stage) → AllActIn source image plan blocks 0 inner stages → Pairwise Remains stages (all_are None stages)
+  stay_none inner [] all = tt
+  stay_none inner (s ∷ stages) all = (subst IsOver (sym all.0) refl, stay_none inner stages all.1)
 
-  stay_some : (d : ℕ) (stages : List Stage) → AllActIn source image plan blocks (suc d) stages → Pairwise Remains stages (all_are (Some (Acts d)) stages)
-  stay_some d [] all = tt
-  stay_some d (s ∷ stages) all = (
-    (ap count_of_stage all.0, subst (λ x. Nears (distance x) (Some d)) (sym all.0) refl, subst (λ x. SameKind x (Acts d)) (sym all.0) tt, ap is_over all.0),
-    stay_some d stages all.1,
+  stay_some : (d inner : ℕ) (stages : List Stage) → AllActIn source image plan blocks (suc d) inner stages → Pairwise Remains stages (all_are (Some (Acts d inner)) stages)
+  stay_some d inner [] all = tt
+  stay_some d inner (s ∷ stages) all = (
+    (ap count_of_stage all.0, subst (λ x. Nears (distance x) (Some d)) (sym all.0) refl, subst (λ x. SameKind x (Acts d inner)) (sym all.0) refl, ap is_over all.0),
+    stay_some d inner stages all.1,
   )
 
-  group_afters : (t : Setting) (g d : ℕ) (stages : List Stage) (ps : List P) (own : Memory) (ms' : List Member) (ds : List D) (own' : Memory)
-      → AllActIn source image plan blocks d stages → GroupDone source image plan blocks (later t) g d ps ms' ds own' → Afters true t g stages ps own ms' ds own'
-  group_afters t g zero stages ps own ms' ds own' all done = record {
+  group_afters : (t : Setting) (g d inner : ℕ) (stages : List Stage) (ps : List P) (own : Memory) (ms' : List Member) (ds : List D) (own' : Memory)
+      → AllActIn source image plan blocks d inner stages → GroupDone source image plan blocks (later t) g inner d ps ms' ds own' → Afters true t g stages ps own ms' ds own'
+  group_afters t g zero inner stages ps own ms' ds own' all done = record {
     afters = all_are None stages;
     size = length_are None stages;
-    stay = stay_none stages all;
+    stay = stay_none inner stages all;
     is_left = inl (committed stages, done);
     leave = λ e. absurd (cc);
     moved = λ e. absurd (cc);
     others = λ e. absurd (cc);
   }
-  group_afters t g (suc d) stages ps own ms' ds own' all done = record {
-    afters = all_are (Some (Acts d)) stages;
-    size = length_are (Some (Acts d)) stages;
-    stay = stay_some d stages all;
-    is_left = inr (d, keep d stages, done.0, done.1);
+  group_afters t g (suc d) inner stages ps own ms' ds own' all done = record {
+    afters = all_are (Some (Acts d inner)) stages;
+    size = length_are (Some (Acts d inner)) stages;
+    stay = stay_some d inner stages all;
+    is_left = inr (d, inner, keep d inner stages, done.0, done.1);
     leave = λ e. absurd (cc);
     moved = λ e. absurd (cc);
     others = λ e. absurd (cc);
@@ -231,7 +231,7 @@ module _ {S P D : Type 0} (source : Source S P D) (image : Image) (plan : Plan) 
 
   afters_of : (b : Bool) (t : Setting) (g : ℕ) (stages : List Stage) (ps : List P) (own : Memory) (ms' : List Member) (ds : List D) (own' : Memory)
       → Done source image plan blocks b t g stages ps own ms' ds own' → Afters b t g stages ps own ms' ds own'
-  afters_of true t g stages ps own ms' ds own' x = group_afters t g x.0 stages ps own ms' ds own' x.1 x.2
+  afters_of true t g stages ps own ms' ds own' x = group_afters t g x.0 x.1 stages ps own ms' ds own' x.2 x.3
   afters_of false t g stages ps own ms' ds own' x = record {
     afters = x.afters;
     size = length_went (later t) g stages x.afters ms' ps ds x.went;

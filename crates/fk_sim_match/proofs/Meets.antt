@@ -356,12 +356,12 @@ module _ (ending : Ending) (image : Image) (code : HasLines ending image) where
 
   next_stage : (t : Setting) (a : Option Stage) (m : Member) (p d : ℕ) → Went counting image meeting blocks t 0 a m p d → Stage
   next_stage t (Some s) m p d went = s
-  next_stage t None m p d (inl went) = Acts went.0
-  next_stage t None m p d (inr went) = Acts 0
+  next_stage t None m p d (inl went) = Acts went.0 0
+  next_stage t None m p d (inr went) = Acts 0 0
 
   still_member : (t : Setting) (s : Stage) (m : Member) (p : ℕ) → StandsAt counting image meeting blocks t 0 s m p → StaysMember meeting 0 m.number s
   still_member t Ended m p stands = tt
-  still_member t (Acts d) m p stands = tt
+  still_member t (Acts d inner) m p stands = tt
   still_member t (Meets e w f) m p stands = (stands.1, stands.2)
 
   one_changes : (t : Setting) (a : Option Stage) (m : Member) (p d : ℕ) → Holds image t → (went : Went counting image meeting blocks t 0 a m p d)

@@ -6,7 +6,7 @@ use Rattle.fk_sim_nodes.specs.Phase.{Phase, Outside, Away, Leaving, AllMove, Eac
 use Rattle.fk_sim_nodes.specs.Meeting.{IsKept}
 use Rattle.fk_sim_nodes.proofs.Leaving.{leaves_all, cycles_keep_arrivals}
 use Rattle.fk_sim_nodes.proofs.MeetingRuns.{same_length, some_known}
-use Rattle.fk_sim_match.specs.Stage.{Ending, Commits, Unites, Stage, Ended, Acts, Meets, distance, count_for, count_of_stage, counts_for, Nears, AllNear, kept, phase_of}
+use Rattle.fk_sim_match.specs.Stage.{Ending, Commits, Unites, Stage, Ended, Acts, Meets, distance, operations_of, count_for, count_of_stage, counts_for, Nears, AllNear, kept, phase_of}
 use Rattle.fk_sim_match.specs.Plan.{Plan, phase_at, phases_from, phases}
 use Rattle.fk_sim_match.specs.Pace.{WhoIsNearActs, WhoMeetsActs}
 
@@ -26,20 +26,27 @@ falls (x ∷ stages) (y ∷ stages') (suc h) d s near at e =
 falls [] stages' h d s near at e = absurd (cc)
 falls stages stages' h d s near at e = absurd (assumption near)
 
-count_at : (stages : List Stage) (h : ℕ) (s : Stage) → slice_get stages h ≡ Some s → distance s ≡ Some 0 → slice_index (counts_for stages) h ≡ 1
+some_operations : (s : Stage) → 0 < operations_of s
+some_operations Ended = omega arith
+some_operations (Acts d inner) = omega arith
+some_operations (Meets e w f) = omega arith
+
+count_at : (stages : List Stage) (h : ℕ) (s : Stage) → slice_get stages h ≡ Some s → distance s ≡ Some 0 → 0 < slice_index (counts_for stages) h
 count_at [] h s at e = absurd (cc)
-count_at (x ∷ stages) zero s at e = let same : x ≡ s = cc in ap count_of_stage same ∙ ap count_for e
+count_at (x ∷ stages) zero s at e =
+    let same : x ≡ s = cc in
+    subst (λ c. 0 < c) (sym (ap count_of_stage same ∙ ap (count_for (operations_of s)) e)) (some_operations s)
 count_at (x ∷ stages) (suc h) s at e = count_at stages h s at e
 
 pub who_is_near_acts : WhoIsNearActs
 who_is_near_acts stages h zero t s at e near =
     let same : t ≡ t + 0 = omega arith in
-    subst (λ k. slice_index (counts_for (stages k)) h ≡ 1) same (count_at (stages t) h s at e)
+    subst (λ k. 0 < slice_index (counts_for (stages k)) h) same (count_at (stages t) h s at e)
 who_is_near_acts stages h (suc d) t s at e near =
     let start : t + 0 ≡ t = omega arith in
     let f = falls (stages t) (stages (suc t)) h d s (subst (λ k. AllNear (stages k) (stages (suc k))) start (near 0 (omega arith))) at e in
     let same : suc t + d ≡ t + suc d = omega arith in
-    subst (λ k. slice_index (counts_for (stages k)) h ≡ 1) same
+    subst (λ k. 0 < slice_index (counts_for (stages k)) h) same
     (who_is_near_acts stages h d (suc t) f.stage f.at f.near
     (λ i lt. let k : t + suc i ≡ suc t + i = omega arith in subst (λ j. AllNear (stages j) (stages (suc j))) k (near (suc i) (omega arith))))
 
@@ -95,23 +102,23 @@ all_leave fs n lead (suc k) t word few first moves due =
 
 -- a member that leaves now commits, or unites
 leaving_counts : (s : Stage) (w : ℕ) (b : Bool) → ((e : Ending) → s ≢ Meets e w Outside) → Leaves 0 (phase_at b true (phase_of w true (Some s)))
-    → (count_of_stage s ≡ 1) ⊎ (s ≡ Meets Unites w (Leaving 0))
+    → (0 < count_of_stage s) ⊎ (s ≡ Meets Unites w (Leaving 0))
 leaving_counts s w false member leaves = absurd leaves
 leaving_counts Ended w true member leaves = absurd leaves
-leaving_counts (Acts d) w true member leaves = absurd leaves
+leaving_counts (Acts d inner) w true member leaves = absurd leaves
 leaving_counts (Meets ending v f) w true member leaves = at_word ending v f w (cases_eq v w) member leaves
   where
     this_word : (ending : Ending) (v : ℕ) (f : Phase) → ((e : Ending) → Meets ending v f ≢ Meets e v Outside) → Leaves 0 f
-        → (count_of_stage (Meets ending v f) ≡ 1) ⊎ (Meets ending v f ≡ Meets Unites v (Leaving 0))
+        → (0 < count_of_stage (Meets ending v f)) ⊎ (Meets ending v f ≡ Meets Unites v (Leaving 0))
     this_word ending v Outside member leaves = absurd (member ending refl)
-    this_word Commits v (Leaving d) member leaves = inl (ap (λ k. count_of_stage (Meets Commits v (Leaving k))) leaves)
+    this_word Commits v (Leaving d) member leaves = inl (subst (λ k. 0 < count_of_stage (Meets Commits v (Leaving k))) (sym leaves) (omega arith))
     this_word Unites v (Leaving d) member leaves = inr (ap (λ k. Meets Unites v (Leaving k)) leaves)
     this_word ending v f member leaves = absurd (assumption leaves)
 
     at_word : (ending : Ending) (v : ℕ) (f : Phase) (w : ℕ) → ((v ≡ w) ⊎ (v ≢ w)) → ((e : Ending) → Meets ending v f ≢ Meets e w Outside) → Leaves 0 (cond (v == w) f Away)
-        → (count_of_stage (Meets ending v f) ≡ 1) ⊎ (Meets ending v f ≡ Meets Unites w (Leaving 0))
+        → (0 < count_of_stage (Meets ending v f)) ⊎ (Meets ending v f ≡ Meets Unites w (Leaving 0))
     at_word ending v f w (inl e) member leaves =
-        subst (λ k. (count_of_stage (Meets ending v f) ≡ 1) ⊎ (Meets ending v f ≡ Meets Unites k (Leaving 0))) e
+        subst (λ k. (0 < count_of_stage (Meets ending v f)) ⊎ (Meets ending v f ≡ Meets Unites k (Leaving 0))) e
         (this_word ending v f (λ x same. member x (same ∙ ap (λ k. Meets x k Outside) e)) (subst (λ b. Leaves 0 (cond b f Away)) (eq-eqb v w e) leaves))
     at_word ending v f w (inr ne) member leaves = absurd (subst (λ b. Leaves 0 (cond b f Away)) (ne_eqb v w ne) leaves)
 

@@ -164,10 +164,13 @@ module _ (p : ℕ) (tree : Tree) (sound : IsSound p tree) where
 -- ---- one processor
 
 module _ (core : List CoreOp) (setting : Setting) (tree : Tree) (spaces : ℕ → Space) where
+  may_single : (inner : ℕ) (r : Runner Position) → inner ≡ 0 → is_some (next core r.left) ≡ true → may_act (next core) setting (suc inner) r ≡ true
+  may_single inner r single some = subst (λ n. may_act (next core) setting (suc n) r ≡ true) (sym single) some
+
   may_one : (g : ℕ) (x : Stage) (r : Runner Position) → IsDueAt core tree spaces g x r → may_act (next core) setting (count_of_stage x) r ≡ true
   may_one g Ended r due = refl
-  may_one g (Acts zero) r due = ap is_some due.next_is
-  may_one g (Acts (suc d)) r due = refl
+  may_one g (Acts zero inner) r due = may_single inner r due.single (ap is_some due.next_is)
+  may_one g (Acts (suc d) inner) r due = refl
   may_one g (Meets e w Outside) r due = refl
   may_one g (Meets e w Away) r due = refl
   may_one g (Meets e w (Coming d)) r due = refl
@@ -214,22 +217,23 @@ module _ (core : List CoreOp) (setting : Setting) (tree : Tree) (spaces : ℕ �
   joint_here (y ∷ stages) [] h x r at here = absurd (cc)
 
 -- all act at one distance
-abbrev AllAre : (d : ℕ) → List Stage → Type 0
-AllAre d [] = Unit {0}
-AllAre d (x ∷ stages) = (x ≡ Acts d) × AllAre d stages
+abbrev AllAre : (d inner : ℕ) → List Stage → Type 0
+AllAre d inner [] = Unit {0}
+AllAre d inner (x ∷ stages) = (x ≡ Acts d inner) × AllAre d inner stages
 
-past_one : (d : ℕ) (b : Bool) (x : Stage) (stages : List Stage) → AllAre d (add b x stages) → AllAre d stages
-past_one d true x stages all = all.1
-past_one d false x stages all = all
+past_one : (d inner : ℕ) (b : Bool) (x : Stage) (stages : List Stage) → AllAre d inner (add b x stages) → AllAre d inner stages
+past_one d inner true x stages all = all.1
+past_one d inner false x stages all = all
 
-act_at : (d g : ℕ) (ns : List ℕ) (stages : List Stage) (h : ℕ) (x : Stage) → AllAre d (of_node g ns stages) → slice_get ns h ≡ Some g → slice_get stages h ≡ Some x → x ≡ Acts d
-act_at d g (n ∷ ns) (y ∷ stages) zero x all here at =
+act_at : (d inner g : ℕ) (ns : List ℕ) (stages : List Stage) (h : ℕ) (x : Stage) → AllAre d inner (of_node g ns stages) → slice_get ns h ≡ Some g → slice_get stages h ≡ Some x
+    → x ≡ Acts d inner
+act_at d inner g (n ∷ ns) (y ∷ stages) zero x all here at =
     let same : n ≡ g = cc in
     let is : y ≡ x = cc in
-    sym is ∙ (subst (λ b. AllAre d (add b y (of_node g ns stages))) (eq-eqb n g same) all).0
-act_at d g (n ∷ ns) (y ∷ stages) (suc h) x all here at = act_at d g ns stages h x (past_one d (n == g) y (of_node g ns stages) all) here at
-act_at d g [] stages h x all here at = absurd (cc)
-act_at d g (n ∷ ns) [] h x all here at = absurd (cc)
+    sym is ∙ (subst (λ b. AllAre d inner (add b y (of_node g ns stages))) (eq-eqb n g same) all).0
+act_at d inner g (n ∷ ns) (y ∷ stages) (suc h) x all here at = act_at d inner g ns stages h x (past_one d inner (n == g) y (of_node g ns stages) all) here at
+act_at d inner g [] stages h x all here at = absurd (cc)
+act_at d inner g (n ∷ ns) [] h x all here at = absurd (cc)
 
 pub lockstep_kind : (k : Option Kind) → is_lockstep k ≡ true → k ≡ Some Lockstep
 lockstep_kind None is = absurd (false≢true is)
@@ -302,14 +306,14 @@ module _ (core : List CoreOp) (image : Image) (places : Places) (nestings : Nest
 
   -- ---- in lockstep
 
-  act_only : (d : ℕ) (xs : List Stage) (ms : List Member) (ps : List Owner)
-      → AllAct (core_source core setting) image plan (blocks_of core image places nestings setting plan (first_of spaces)) d xs ms ps → AllAre d xs
-  act_only d [] [] [] all = tt
-  act_only d (x ∷ xs) (m ∷ ms) (q ∷ ps) all = (all.0, act_only d xs ms ps all.1)
-  act_only d xs ms ps all = absurd (assumption all)
+  act_only : (d inner : ℕ) (xs : List Stage) (ms : List Member) (ps : List Owner)
+      → AllAct (core_source core setting) image plan (blocks_of core image places nestings setting plan (first_of spaces)) d inner xs ms ps → AllAre d inner xs
+  act_only d inner [] [] [] all = tt
+  act_only d inner (x ∷ xs) (m ∷ ms) (q ∷ ps) all = (all.0, act_only d inner xs ms ps all.1)
+  act_only d inner xs ms ps all = absurd (assumption all)
 
   -- the distance of all members of a group
-  group_acts : (n : ℕ) → is_lockstep (t.kind tree n) ≡ true → (d : ℕ) × ((h : ℕ) (x : Stage) → slice_get nodes h ≡ Some n → slice_get stages h ≡ Some x → x ≡ Acts d)
+  group_acts : (n : ℕ) → is_lockstep (t.kind tree n) ≡ true → (d : ℕ) × (inner : ℕ) × ((h : ℕ) (x : Stage) → slice_get nodes h ≡ Some n → slice_get stages h ≡ Some x → x ≡ Acts d inner)
   group_acts n is =
       let group : InLockstep (core_source core setting) image plan (blocks_of core image places nestings setting plan (first_of spaces)) u n (of_node n nodes stages)
       (of_node n nodes (numbered 0 hs)) (of_node n nodes (owners_of heaps s.runners)) (own n)
@@ -318,19 +322,20 @@ module _ (core : List CoreOp) (image : Image) (places : Places) (nestings : Nest
       Binds (core_source core setting) image plan (blocks_of core image places nestings setting plan (first_of spaces)) b u n (of_node n nodes stages)
       (of_node n nodes (numbered 0 hs)) (of_node n nodes (owners_of heaps s.runners)) (own n))
       is (bound.binds n) in
-      let all = act_only group.distance (of_node n nodes stages) (of_node n nodes (numbered 0 hs)) (of_node n nodes (owners_of heaps s.runners)) group.alike in (
+      let all = act_only group.distance group.inner (of_node n nodes stages) (of_node n nodes (numbered 0 hs)) (of_node n nodes (owners_of heaps s.runners)) group.alike in (
         group.distance,
-        λ h x node at. act_at group.distance n nodes stages h x all node at,
+        group.inner,
+        λ h x node at. act_at group.distance group.inner n nodes stages h x all node at,
       )
 
   fits_group : (h : ℕ) → h < p → t.kind tree (tree.places h) ≡ Some Lockstep → fits_kind round does tree h (tree.places h) (Some Lockstep) ≡ true
   fits_group h lt kind =
       let n = tree.places h in
       let acts = group_acts n (ap is_lockstep kind) in
-      let count_is : (m : ℕ) → m < p → tree.places m ≡ n → slice_index round m ≡ count_of_stage (Acts acts.0)
+      let count_is : (m : ℕ) → m < p → tree.places m ≡ n → slice_index round m ≡ count_of_stage (Acts acts.0 acts.1)
       = λ m lt' e.
       let x = here m lt' in
-      x.count ∙ ap count_of_stage (acts.1 m x.stage (x.node ∙ ap (λ k. Some k) e) x.at) in
+      x.count ∙ ap count_of_stage (acts.2 m x.stage (x.node ∙ ap (λ k. Some k) e) x.at) in
       all_true (λ m. slice_index round m == slice_index round h) (t.members tree n)
       (λ m is. eq-eqb (slice_index round m) (slice_index round h) (count_is m (sound.within n m is) (leaf_place p tree sound n m kind is) ∙ sym (count_is h lt refl)))
 
@@ -350,7 +355,7 @@ module _ (core : List CoreOp) (image : Image) (places : Places) (nestings : Nest
     free : is_lockstep (t.kind tree n) ≡ false
     free =
         ⊎_elim
-        (λ is. let acts = group_acts n is in let e = sym leaves ∙ acts.1 h x.stage x.node x.at in absurd (cc))
+        (λ is. let acts = group_acts n is in let e = sym leaves ∙ acts.2 h x.stage x.node x.at in absurd (cc))
         (λ no. no)
         (cases_Bool (is_lockstep (t.kind tree n)))
 
@@ -414,7 +419,7 @@ module _ (core : List CoreOp) (image : Image) (places : Places) (nestings : Nest
 
         stage_is : (z : Stage) → IsDueAt core tree spaces (tree.places m) z y.runner → Leaves 0 (phase_of w true (Some z)) → (e : Ending) × (z ≡ Meets e w (Leaving 0))
         stage_is Ended d l = absurd (assumption l)
-        stage_is (Acts k) d l = absurd (assumption l)
+        stage_is (Acts k inner) d l = absurd (assumption l)
         stage_is (Meets e v f) d l = (e, leaving_is e v w f d.0 l)
 
     joins_so : (m : ℕ) → is_member m (meeters_at tree n meets.offset) ≡ true → m < p → Joins m
@@ -504,8 +509,8 @@ module _ (core : List CoreOp) (image : Image) (places : Places) (nestings : Nest
 
   -- ---- all of them
 
-  fits_alone : (h : ℕ) (lt : h < p) (x : Here h) → x.stage ≡ Acts 0 → IsDue core tree spaces (tree.places h) x.runner → fits_kind round does tree h (tree.places h) (t.kind tree (tree.places h)) ≡ true
-  fits_alone h lt x e is_due =
+  fits_alone : (h inner : ℕ) (lt : h < p) (x : Here h) → x.stage ≡ Acts 0 inner → IsDue core tree spaces (tree.places h) inner x.runner → fits_kind round does tree h (tree.places h) (t.kind tree (tree.places h)) ≡ true
+  fits_alone h inner lt x e is_due =
       let n = tree.places h in
       ⊎_elim
       (λ is.
@@ -513,14 +518,15 @@ module _ (core : List CoreOp) (image : Image) (places : Places) (nestings : Nest
       subst (λ k. fits_kind round does tree h n k ≡ true) (sym kind) (fits_group h lt kind))
       (λ no.
       let joint : does h ≡ Alone
-      = x.joint ∙ ap (λ z. joint_due (begin (next core) setting (count_of_stage z) x.runner).due) e ∙ ap joint_due is_due.next_is ∙ is_due.joint no in
+      = x.joint ∙ ap (λ z. joint_due (begin (next core) setting (count_of_stage z) x.runner).due) e
+      ∙ ap (λ k. joint_due (begin (next core) setting (suc k) x.runner).due) is_due.single ∙ ap joint_due is_due.next_is ∙ is_due.joint no in
       fits_free h n (t.kind tree n) no ∙ ap (λ j. joins round does tree n j) joint)
       (cases_Bool (is_lockstep (t.kind tree n)))
 
   fits_by : (h : ℕ) (lt : h < p) (x : Here h) (z : Stage) → x.stage ≡ z → IsDueAt core tree spaces (tree.places h) z x.runner → fits round does tree h (count_of_stage z) ≡ true
   fits_by h lt x Ended e is_due = refl
-  fits_by h lt x (Acts zero) e is_due = fits_alone h lt x e is_due
-  fits_by h lt x (Acts (suc d)) e is_due = refl
+  fits_by h lt x (Acts zero inner) e is_due = fits_alone h inner lt x e is_due
+  fits_by h lt x (Acts (suc d) inner) e is_due = refl
   fits_by h lt x (Meets ending w Outside) e is_due = refl
   fits_by h lt x (Meets ending w Away) e is_due = refl
   fits_by h lt x (Meets ending w (Coming d)) e is_due = refl

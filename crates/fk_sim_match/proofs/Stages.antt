@@ -164,19 +164,19 @@ module _ {S P D : Type 0} (source : Source S P D) (image : Image) (plan : Plan) 
         keeps = λ i e f. refl;
         follows = follows m.hart (blocks.idle p) own (free t g Ended (Some Ended) p own m (blocks.idle p) (λ w b. refl) (λ w b. refl) (refl, tt, tt, refl) (refl, stands) tt);
       })
-  one_turn t g (Acts (suc d)) m p own earlier sh st Then idle joint apart stands shows has follows =
+  one_turn t g (Acts (suc d) inner) m p own earlier sh st Then idle joint apart stands shows has follows =
       let l = stands.1 in
       inl (stays_passing source image (plan.words g) t 0 m p (blocks.idle p) own l.runs.0 own earlier sh st Then apart shows has
       (private_stays image (plan.words g) t m own l.runs.0 l.runs.1) (idle st p)
       (follows l.runs.0 (blocks.idle p) own
-      (free t g (Acts (suc d)) (Some (Acts d)) p own (record m { hart = l.runs.0 }) (blocks.idle p) (λ w b. refl) (λ w b. refl) (refl, refl, tt, refl)
+      (free t g (Acts (suc d) inner) (Some (Acts d inner)) p own (record m { hart = l.runs.0 }) (blocks.idle p) (λ w b. refl) (λ w b. refl) (refl, refl, refl, refl)
       (refl, (stands.0, record { committing = l.committing; runs = l.runs.2; commits = l.commits })) tt)))
-  one_turn t g (Acts zero) m p own earlier sh st Then idle joint apart stands shows has follows =
+  one_turn t g (Acts zero inner) m p own earlier sh st Then idle joint apart stands shows has follows =
       let l = stands.1 in
       let After : Hart → D → Type 0 = λ h x. (h' : Hart) × RunsPrivately image (later t) m.number stands.0 h h' × blocks.AfterOne g stands.0 (record m { hart = h' }) p x in
-      let c = subst (λ h. OneCommits source image t 1 (record m { hart = h }) p After) (sym l.runs) l.commits in
-      one_passes source image (plan.words g) t 1 m p own earlier sh st After Then apart shows has c
-      (λ h d x. follows h d own (free t g (Acts zero) None p own (record m { hart = h }) d (λ w b. refl) (λ w b. refl) refl (inl (stands.0, x.0, x.1, x.2)) (stands.0, x.0, x.1, x.2))) (c.does st)
+      let c = subst (λ h. OneCommits source image t (suc inner) (record m { hart = h }) p After) (sym l.runs) l.commits in
+      one_passes source image (plan.words g) t (suc inner) m p own earlier sh st After Then apart shows has c
+      (λ h d x. follows h d own (free t g (Acts zero inner) None p own (record m { hart = h }) d (λ w b. refl) (λ w b. refl) refl (inl (stands.0, x.0, x.1, x.2)) (stands.0, x.0, x.1, x.2))) (c.does st)
   one_turn t g (Meets ending v f) m p own earlier sh st Then idle joint apart stands shows has follows =
       let took = joint t g ending v f m p own stands.0 stands.1 stands.3 in
       inl (stays_passing source image (plan.words g) t (count_of_stage (Meets ending v f)) m p took.done own took.hart took.words earlier sh st Then apart shows has took.stays (took.takes st)
@@ -222,11 +222,11 @@ module _ {S P D : Type 0} (source : Source S P D) (image : Image) (plan : Plan) 
   pub stage_count : (t : Setting) (g : ℕ) (s : Stage) (m : Member) (p : P) → JointBlocksTurn source image plan blocks
       → StandsAt source image plan blocks t g s m p → count_of image (runs m.hart) ≡ count_of_stage s
   stage_count t g Ended m p joint stands = ap (λ e. count_of image (cond e None (Some m.hart.pc))) stands
-  stage_count t g (Acts (suc d)) m p joint stands = let l = stands.1 in ap (count_of image) (runs_at m.hart l.runs.1.live) ∙ l.runs.1.counted
-  stage_count t g (Acts zero) m p joint stands =
+  stage_count t g (Acts (suc d) inner) m p joint stands = let l = stands.1 in ap (count_of image) (runs_at m.hart l.runs.1.live) ∙ l.runs.1.counted
+  stage_count t g (Acts zero inner) m p joint stands =
       let l = stands.1 in
       let After : Hart → D → Type 0 = λ h x. (h' : Hart) × RunsPrivately image (later t) m.number stands.0 h h' × blocks.AfterOne g stands.0 (record m { hart = h' }) p x in
-      let c = subst (λ h. OneCommits source image t 1 (record m { hart = h }) p After) (sym l.runs) l.commits in
+      let c = subst (λ h. OneCommits source image t (suc inner) (record m { hart = h }) p After) (sym l.runs) l.commits in
       ap (count_of image) (runs_at m.hart c.live) ∙ c.counted
   stage_count t g (Meets ending v f) m p joint stands =
       let took = joint t g ending v f m p (λ i. 0) stands.0 stands.1 stands.3 in

@@ -71,7 +71,7 @@ members_stand_at_stages core image places nestings cycles firsts main setting pl
 -- the end of `main` leaves what all share, and its processor is to end
 halt_part : (core : List CoreOp) (setting : Setting) (i : ℕ) (op : CoreOp) (s : Commons) (p : Owner) → OpAt core i op Halt → p.runner.left.at ≡ i
     → part core setting 1 s p ≡ Passes s (is_due core i op Halt p)
-halt_part core setting i op s p stands at = operations_are_next core i op Halt setting s p stands at
+halt_part core setting i op s p stands at = operations_are_next core i op Halt setting 0 s p stands at
 
 abbrev done_in : Doing → Part Commons Doing → Doing
 done_in other (Passes s d) = d
@@ -182,7 +182,7 @@ starters_set_out core image places nestings cycles firsts main setting plan firs
 
 module _ (core : List CoreOp) (image : Image) (places : Places) (nestings : Nestings) (setting : Setting) (plan : Plan) (first : ℕ → ℕ) where
   all_alike : (d : ℕ) (ms : List Member) (ps : List Owner) → length ms ≡ length ps
-      → AllAct (core_source core setting) image plan (blocks_of core image places nestings setting plan first) d (all_act d ms) ms ps
+      → AllAct (core_source core setting) image plan (blocks_of core image places nestings setting plan first) d 0 (all_act d ms) ms ps
   all_alike d [] [] e = tt
   all_alike d (m ∷ ms) (p ∷ ps) e = (refl, all_alike d ms ps (omega (arith, e)))
   all_alike d [] (p ∷ ps) e = absurd (omega (arith, e))
@@ -207,7 +207,7 @@ module _ (core : List CoreOp) (image : Image) (places : Places) (nestings : Nest
   in_lockstep : (t : MachineSetting) (g d : ℕ) (ms : List Member) (ps : List Owner) (own : Memory) → length ms ≡ length ps
       → Together (core_source core setting) image (plan.words g) t 1 d ms ps own (Behind (later (in_cycles d t)) g)
       → InLockstep (core_source core setting) image plan (blocks_of core image places nestings setting plan first) t g (all_act d ms) ms ps own
-  in_lockstep t g d ms ps own many x = record { distance = d; alike = all_alike d ms ps many; together = x }
+  in_lockstep t g d ms ps own many x = record { distance = d; inner = 0; alike = all_alike d ms ps many; together = x }
 
   still_at_rest : (g : ℕ) (own own' : Memory) → ((j : ℕ) → (j ≡ first g + agreed_word → ⊥) → own' j ≡ own j) → IsAtRest (first g) own → IsAtRest (first g) own'
   still_at_rest g own own' others rest = record {

@@ -59,23 +59,23 @@ module _ (core : List CoreOp) (image : Image) (places : Places) (nestings : Nest
   counted t d ms (inl e) = subst (λ l. Settled t (length l) 0 (absent (is_member 0 l) ∷ [])) (sym e) (record { size = refl; count = refl; in_step = (tt, tt); together = inl (tt, tt) })
   counted t d ms (inr e) = subst (λ l. Settled t (length l) 0 (absent (is_member 0 l) ∷ [])) (sym e) (record { size = refl; count = refl; in_step = (tt, tt); together = inl (tt, tt) })
 
-  module _ (t : MachineSetting) (d : ℕ) (h : Hart) (p : Owner) (stands : StandsAt (core_source core setting) image plan (blocks_of core image places nestings setting plan (first_of spaces)) t 0 (Acts d) (record { number = 0; hart = h }) p) where
+  module _ (t : MachineSetting) (d : ℕ) (h : Hart) (p : Owner) (stands : StandsAt (core_source core setting) image plan (blocks_of core image places nestings setting plan (first_of spaces)) t 0 (Acts d 0) (record { number = 0; hart = h }) p) where
     nobody_elsewhere : (g : ℕ) (b lock : Bool) → b ≡ false → lock ≡ false
-        → Binds (core_source core setting) image plan (blocks_of core image places nestings setting plan (first_of spaces)) lock t (suc g) (add b (Acts d) []) (add b (record { number = 0; hart = h }) [])
+        → Binds (core_source core setting) image plan (blocks_of core image places nestings setting plan (first_of spaces)) lock t (suc g) (add b (Acts d 0) []) (add b (record { number = 0; hart = h }) [])
         (add b p []) (λ i. 0)
     nobody_elsewhere g false false e f = tt
     nobody_elsewhere g true lock e f = absurd (false≢true (sym e))
     nobody_elsewhere g false true e f = absurd (false≢true (sym f))
 
     binds : (g : ℕ) → Binds (core_source core setting) image plan (blocks_of core image places nestings setting plan (first_of spaces)) (plan.in_lockstep g) t g
-        (of_node g (0 ∷ []) (Acts d ∷ [])) (of_node g (0 ∷ []) (numbered 0 (h ∷ []))) (of_node g (0 ∷ []) (p ∷ [])) (λ i. 0)
+        (of_node g (0 ∷ []) (Acts d 0 ∷ [])) (of_node g (0 ∷ []) (numbered 0 (h ∷ []))) (of_node g (0 ∷ []) (p ∷ [])) (λ i. 0)
     binds zero = (stands, tt)
     binds (suc g) =
         nobody_elsewhere g (0 == suc g) (plan.in_lockstep (suc g)) (ne_eqb 0 (suc g) (λ e. omega (arith, e))) (ap (λ o. is_lockstep (kind_of o)) (gone g))
 
-    counts : (g w : ℕ) → Counts (core_source core setting) image plan (blocks_of core image places nestings setting plan (first_of spaces)) t g w (Acts d ∷ []) (λ i. 0)
+    counts : (g w : ℕ) → Counts (core_source core setting) image plan (blocks_of core image places nestings setting plan (first_of spaces)) t g w (Acts d 0 ∷ []) (λ i. 0)
     counts zero w free is_open = counted t.finished d (meeters (root 1) spaces w) (who_meets w)
     counts (suc g) w free is_open = absurd (false≢true (subst (λ o. (is_some o && is_from (first_of spaces (suc g)) (own_words spaces (suc g) (kind_of o)) w) ≡ true) (gone g) is_open.0))
 
-    pub one_is_bound : IsBound (core_source core setting) image plan (blocks_of core image places nestings setting plan (first_of spaces)) t (Acts d ∷ []) (h ∷ []) (p ∷ []) (λ g i. 0)
+    pub one_is_bound : IsBound (core_source core setting) image plan (blocks_of core image places nestings setting plan (first_of spaces)) t (Acts d 0 ∷ []) (h ∷ []) (p ∷ []) (λ g i. 0)
     one_is_bound = record { as_many = tt; stages_as_many = tt; binds = binds; counts = counts }

@@ -17,7 +17,7 @@ use Rattle.fk_sim_match.specs.Cycle.{AllHaveCommitted, IsLeft}
 -- an arrival word.
 abbrev pub IsFresh : Setting → Stage → Type 0
 IsFresh t Ended = Unit {0}
-IsFresh t (Acts d) = Unit {0}
+IsFresh t (Acts d inner) = Unit {0}
 IsFresh t (Meets e w (Coming d)) = (t.finished + d) % 2 ≡ 0
 IsFresh t (Meets e w f) = ⊥
 
@@ -131,8 +131,8 @@ PlansGoOn S P D =
 abbrev pub RunsLeadToStages : (S P D : Type 0) → Type 0
 RunsLeadToStages S P D =
     (source : Source S P D) (image : Image) (plan : Plan) (tests : Tests P D) (t : Setting)
-    (g cycles d : ℕ) (m : Member) (hart : Hart) (p : P)
+    (g cycles d inner : ℕ) (m : Member) (hart : Hart) (p : P)
     → RunsPrivately image t m.number cycles m.hart hart
-    → StandsAt source image plan (told_by tests) (in_cycles cycles t) g (Acts d)
+    → StandsAt source image plan (told_by tests) (in_cycles cycles t) g (Acts d inner)
     (record m { hart = hart }) p
-    → StandsAt source image plan (told_by tests) t g (Acts (cycles + d)) m p
+    → StandsAt source image plan (told_by tests) t g (Acts (cycles + d) inner) m p

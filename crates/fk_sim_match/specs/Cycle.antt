@@ -38,7 +38,7 @@ module _ {S P D : Type 0} (source : Source S P D) (image : Image) (plan : Plan)
 
   -- A member whose stage is over leaves it as the stage tells.
   abbrev pub Leaves : Setting → (g : ℕ) → Stage → Member → P → D → Type 0
-  Leaves t g (Acts zero) m p d = HasCommitted source image plan blocks t g m p d
+  Leaves t g (Acts zero inner) m p d = HasCommitted source image plan blocks t g m p d
   Leaves t g (Meets e w (Leaving zero)) m p d = HasLeft source image plan blocks e t g m p d
   Leaves t g s m p d = Unit {0}
 
@@ -69,21 +69,22 @@ module _ {S P D : Type 0} (source : Source S P D) (image : Image) (plan : Plan)
     pub others : (i : ℕ) → plan.arrivals i ≡ false → own' i ≡ own i
 
   -- A group has committed, or it has done nothing and is one cycle nearer to its commit.
-  abbrev pub GroupDone : Setting → (g d : ℕ) → List P → List Member → List D → Memory → Type 0
-  GroupDone t g zero ps ms' ds own' = blocks.AfterAll t g ms' ds own'
-  GroupDone t g (suc d) ps ms' ds own' =
-      (ds ≡ map blocks.idle ps) × Together source image (plan.words g) t 1 d ms' ps own'
+  abbrev pub GroupDone : Setting → (g inner d : ℕ) → List P → List Member → List D → Memory
+      → Type 0
+  GroupDone t g inner zero ps ms' ds own' = blocks.AfterAll t g ms' ds own'
+  GroupDone t g inner (suc d) ps ms' ds own' =
+      (ds ≡ map blocks.idle ps) × Together source image (plan.words g) t (suc inner) d ms' ps own'
       (blocks.AfterAll (later (in_cycles d t)) g)
 
-  abbrev pub AllActIn : (d : ℕ) → List Stage → Type 0
-  AllActIn d [] = Unit {0}
-  AllActIn d (s ∷ stages) = (s ≡ Acts d) × AllActIn d stages
+  abbrev pub AllActIn : (d inner : ℕ) → List Stage → Type 0
+  AllActIn d inner [] = Unit {0}
+  AllActIn d inner (s ∷ stages) = (s ≡ Acts d inner) × AllActIn d inner stages
 
   -- What a cycle makes of a node.
   abbrev pub Done : (in_lockstep : Bool) → Setting → (g : ℕ) → List Stage → List P → Memory
       → List Member → List D → Memory → Type 0
-  Done true t g stages ps own ms' ds own' = (d : ℕ) × AllActIn d stages
-      × GroupDone (later t) g d ps ms' ds own'
+  Done true t g stages ps own ms' ds own' = (d : ℕ) × (inner : ℕ) × AllActIn d inner stages
+      × GroupDone (later t) g inner d ps ms' ds own'
   Done false t g stages ps own ms' ds own' = HaveMoved t g stages ps own ms' ds own'
 
   -- What a cycle makes of each node of the plan.
@@ -99,8 +100,9 @@ module _ {S P D : Type 0} (source : Source S P D) (image : Image) (plan : Plan)
       → Memory → Type 0
   GroupIsLeft t g afters ms ps ds own =
       (AllHaveCommitted afters × blocks.AfterAll t g ms ds own)
-      ⊎ ((d : ℕ) × AllKeep (Acts d) afters × (ds ≡ map blocks.idle ps) × Together source image
-      (plan.words g) t 1 d ms ps own (blocks.AfterAll (later (in_cycles d t)) g))
+      ⊎ ((d : ℕ) × (inner : ℕ) × AllKeep (Acts d inner) afters × (ds ≡ map blocks.idle ps)
+      × Together source image (plan.words g) t (suc inner) d ms ps own
+      (blocks.AfterAll (later (in_cycles d t)) g))
 
   abbrev pub AllAreLeft : Setting → (g : ℕ) → List (Option Stage) → List Member → List P
       → List D → Type 0

@@ -12,7 +12,7 @@ WhoIsNearActs =
     (stages : ℕ → List Stage) (h d t : ℕ) (s : Stage) → slice_get (stages t) h ≡ Some s
     → distance s ≡ Some d
     → ((i : ℕ) → i < d → AllNear (stages (t + i)) (stages (suc (t + i))))
-    → slice_index (counts_for (stages (t + d))) h ≡ 1
+    → 0 < slice_index (counts_for (stages (t + d))) h
 
 -- There is a plan for each of `cycles` cycles, from t on. Those who meet at word w of node g move
 -- there, as long as nobody has committed there.
@@ -31,7 +31,7 @@ abbrev pub AllActIn : Plan → (word : ℕ) → List Stage → Type 0
 AllActIn plan w stages =
     (h n : ℕ) (s : Stage) → plan.member w h ≡ true → slice_get plan.nodes h ≡ Some n
     → slice_get stages h ≡ Some s → ((e : Ending) → s ≢ Meets e w Outside)
-    → (count_of_stage s ≡ 1) ⊎ (s ≡ Meets Unites w (Leaving 0))
+    → (0 < count_of_stage s) ⊎ (s ≡ Meets Unites w (Leaving 0))
 
 -- Once all members have entered a joint operation, and have time for it in k cycles, all are in one
 -- round of the next k + 1.

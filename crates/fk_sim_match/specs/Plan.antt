@@ -116,7 +116,8 @@ module _ {S P D : Type 0} (source : Source S P D) (image : Image) (plan : Plan)
   -- A member of a node is at its stage.
   abbrev pub StandsAt : Setting → (g : ℕ) → Stage → Member → P → Type 0
   StandsAt t g Ended m p = m.hart.ended ≡ true
-  StandsAt t g (Acts d) m p = (behind : ℕ) × OneDoes source image t 1 d behind m p
+  StandsAt t g (Acts d inner) m p = (behind : ℕ)
+      × OneDoes source image t (suc inner) d behind m p
       (λ h x. blocks.AfterOne g behind (record m { hart = h }) p x)
   StandsAt t g (Meets e w f) m p = IsInside f × IsOpen plan g w × (plan.member w m.number ≡ true)
       × blocks.StandsIn g t e w f m p
@@ -126,17 +127,19 @@ module _ {S P D : Type 0} (source : Source S P D) (image : Image) (plan : Plan)
   AllStandAt t g (s ∷ stages) (m ∷ ms) (p ∷ ps) = StandsAt t g s m p × AllStandAt t g stages ms ps
   AllStandAt t g stages ms ps = ⊥
 
-  -- Members in lockstep are all at one distance from their common commit.
-  abbrev pub AllAct : (d : ℕ) → List Stage → List Member → List P → Type 0
-  AllAct d [] [] [] = Unit {0}
-  AllAct d (s ∷ stages) (m ∷ ms) (p ∷ ps) = (s ≡ Acts d) × AllAct d stages ms ps
-  AllAct d stages ms ps = ⊥
+  -- Members in lockstep are all at one distance from their common commit, of equally many
+  -- operations.
+  abbrev pub AllAct : (d inner : ℕ) → List Stage → List Member → List P → Type 0
+  AllAct d inner [] [] [] = Unit {0}
+  AllAct d inner (s ∷ stages) (m ∷ ms) (p ∷ ps) = (s ≡ Acts d inner) × AllAct d inner stages ms ps
+  AllAct d inner stages ms ps = ⊥
 
   pub record InLockstep (t : Setting) (g : ℕ) (stages : List Stage) (ms : List Member) (ps : List P)
       (own : Memory) : Type 0 where
     pub distance : ℕ
-    pub alike : AllAct distance stages ms ps
-    pub together : Together source image (plan.words g) t 1 distance ms ps own
+    pub inner : ℕ
+    pub alike : AllAct distance inner stages ms ps
+    pub together : Together source image (plan.words g) t (suc inner) distance ms ps own
         (blocks.AfterAll (later (in_cycles distance t)) g)
 
   -- What binds the harts of a node: they are in lockstep, or each is at its stage by itself.

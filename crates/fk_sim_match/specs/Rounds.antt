@@ -45,8 +45,9 @@ ending_of Starting = Unites
 ending_of joint = Commits
 
 module _ (core : List CoreOp) (tree : Tree) (spaces : ℕ → Space) where
-  -- A processor is about to do something by itself, or with its group in lockstep.
-  pub record IsDue (g : ℕ) (r : Runner Position) : Type 0 where
+  -- A processor is about to do one operation by itself, or with its group in lockstep.
+  pub record IsDue (g inner : ℕ) (r : Runner Position) : Type 0 where
+    pub single : inner ≡ 0
     pub step : Step Position
     pub next_is : next core r.left ≡ Some step
     pub joint : is_lockstep (t.kind tree g) ≡ false → joint_of step.operation ≡ Alone
@@ -63,7 +64,7 @@ module _ (core : List CoreOp) (tree : Tree) (spaces : ℕ → Space) where
 
   abbrev pub IsDueAt : (g : ℕ) → Stage → Runner Position → Type 0
   IsDueAt g Ended r = next core r.left ≡ None
-  IsDueAt g (Acts d) r = IsDue g r
+  IsDueAt g (Acts d inner) r = IsDue g inner r
   IsDueAt g (Meets e w f) r = IsInside f × MeetsAtWord e g w r
 
   -- All processors, from a number on, are about to do what their stages tell, at their nodes.

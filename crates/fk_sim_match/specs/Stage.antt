@@ -9,11 +9,12 @@ pub data Ending : Type 0 where
   Commits : Ending
   Unites : Ending
 
--- The stage of a hart: it has ended; it commits in this many cycles, by itself or with its group;
--- or it is in a phase of a joint block, at an arrival word.
+-- The stage of a hart: it has ended; in this many cycles it commits an operation and so many local
+-- ones before it, by itself or with its group; or it is in a phase of a joint block, at an arrival
+-- word.
 pub data Stage : Type 0 where
   Ended : Stage
-  Acts : (distance : ℕ) → Stage
+  Acts : (distance inner : ℕ) → Stage
   Meets : (ending : Ending) (word : ℕ) (phase : Phase) → Stage
 
 -- In how many cycles a hart commits. There is no such number where it has ended, waits for others,
@@ -28,20 +29,30 @@ distance_by e f = None
 
 abbrev pub distance : Stage → Option ℕ
 distance Ended = None
-distance (Acts d) = Some d
+distance (Acts d inner) = Some d
 distance (Meets e w f) = distance_by e f
 
--- A hart that commits now is in the round.
-abbrev pub count_for : Option ℕ → ℕ
-count_for None = 0
-count_for (Some zero) = 1
-count_for (Some (suc d)) = 0
+-- How many operations the commit of a stage does. Joint operations are done alone.
+abbrev pub operations_of : Stage → ℕ
+operations_of (Acts d inner) = suc inner
+operations_of s = 1
+
+-- A hart that commits now is in the round, with the operations of its stage.
+abbrev pub count_for : (operations : ℕ) → Option ℕ → ℕ
+count_for n None = 0
+count_for n (Some zero) = n
+count_for n (Some (suc d)) = 0
 
 abbrev pub count_of_stage : Stage → ℕ
-count_of_stage s = count_for (distance s)
+count_of_stage s = count_for (operations_of s) (distance s)
 
 abbrev pub counts_for : List Stage → List ℕ
 counts_for stages = map count_of_stage stages
+
+-- The commits of all stages do one operation.
+abbrev pub AllDoOne : List Stage → Type 0
+AllDoOne [] = Unit {0}
+AllDoOne (s ∷ stages) = (operations_of s ≡ 1) × AllDoOne stages
 
 -- A distance falls by one in a cycle. After a stage without one, or at 0, any distance may follow.
 abbrev pub Nears : Option ℕ → Option ℕ → Type 0
@@ -60,7 +71,7 @@ AllNear stages stages' = Pairwise (λ s s'. Nears (distance s) (distance s')) st
 -- A hart that does not commit stays at its operation.
 abbrev pub SameKind : Stage → Stage → Type 0
 SameKind Ended Ended = Unit {0}
-SameKind (Acts d) (Acts d') = Unit {0}
+SameKind (Acts d inner) (Acts d' inner') = inner' ≡ inner
 SameKind (Meets e w f) (Meets e' v f') = (e' ≡ e) × (v ≡ w)
 SameKind s s' = ⊥
 
@@ -70,7 +81,7 @@ IsOver (Meets Unites w f) = f ≡ Leaving 0
 IsOver s = distance s ≡ Some 0
 
 abbrev pub is_over : Stage → Bool
-is_over (Acts zero) = true
+is_over (Acts zero inner) = true
 is_over (Meets e w (Leaving zero)) = true
 is_over s = false
 

@@ -31,9 +31,9 @@ use Rattle.fk_sim_block.specs.Law.{Cycles, GroupLaw, is_shared_step, IsAskedOf}
 use Rattle.fk_sim_block.specs.Laws.{AllGo}
 use Rattle.fk_sim_match.specs.Behind.{runs_of, IsAskedToMove, blocks_of}
 
--- All members are at one distance.
+-- All members are at one distance from the commit of one operation.
 abbrev pub all_act : (d : ℕ) → List Member → List Stage
-all_act d ms = map (λ m. Acts d) ms
+all_act d ms = map (λ m. Acts d 0) ms
 
 -- A member by itself, at the block of a local operation or a request.
 abbrev pub MembersStandAtStages : Type 0
@@ -47,7 +47,7 @@ MembersStandAtStages =
     → IsMember places nestings setting (runs_of plan (first g) m.number) (first g) m p
     → FindsFrame nestings operation p.runner
     → StandsAt (core_source core setting) image plan
-    (blocks_of core image places nestings setting plan first) t g (Acts (cycles.before i)) m p
+    (blocks_of core image places nestings setting plan first) t g (Acts (cycles.before i) 0) m p
 
 -- A member by itself, at the block of a halt.
 abbrev pub MembersHaltAtStages : Type 0
@@ -58,7 +58,7 @@ MembersHaltAtStages =
     → GroupLaw core image places nestings cycles firsts main → OpAt core i op Halt
     → Enters core image places setting t i op Halt p m.hart → m.number ≡ number_of p
     → (d : ℕ) × (d ≤ most_before) × StandsAt (core_source core setting) image plan
-    (blocks_of core image places nestings setting plan first) t g (Acts d) m p
+    (blocks_of core image places nestings setting plan first) t g (Acts d 0) m p
 
 -- A member at the block of a joint operation is on its way to the arrival word.
 abbrev pub MeetersSetOut : Type 0

@@ -117,7 +117,7 @@ module _ (core : List CoreOp) (image : Image) (places : Places) (nestings : Nest
   none_stayed done stays e = let same = sym (stays_keep done stays) ∙ ap changes_tree e ∙ changes in absurd (false≢true same)
 
   pub acted : GroupIsLeft (core_source core setting) image plan blocks t g afters ms ps ds own → Acted
-  acted (inr x) = absurd (some (not_idle operation ps ds all_step x.2))
+  acted (inr x) = absurd (some (not_idle operation ps ds all_step x.3))
   acted (inl x) =
       ⊎_elim
       (λ led.

@@ -26,13 +26,13 @@ use Rattle.fk_sim_rounds.specs.After.{runners_of}
 
 module _ (core : List CoreOp) (image : Image) (setting : Setting) (plan : Plan) (blocks : Blocks Owner Doing) (i : ℕ) (op : CoreOp) (stands : OpAt core i op Begin) where
   abbrev All : (d : ℕ) → List Stage → List Member → List Owner → Type 0
-  All d stages ms ps = AllAct (core_source core setting) image plan blocks d stages ms ps
+  All d stages ms ps = AllAct (core_source core setting) image plan blocks d 0 stages ms ps
 
   pub is_next : (p : Owner) → p.runner.left.at ≡ i → next core p.runner.left ≡ Some (step_at core i op Begin p.runner.left.callers)
   is_next p at =
       subst (λ j. next core (position j p.runner.left.callers) ≡ Some (step_at core i op Begin p.runner.left.callers)) (sym at) (next_here core i op Begin p.runner.left.callers stands)
 
-  may_one : (d : ℕ) (p : Owner) → p.runner.left.at ≡ i → may_act (next core) setting (count_of_stage (Acts d)) p.runner ≡ true
+  may_one : (d : ℕ) (p : Owner) → p.runner.left.at ≡ i → may_act (next core) setting (count_of_stage (Acts d 0)) p.runner ≡ true
   may_one zero p at = ap (λ n. nat_lt 0 255 && true && is_some n) (is_next p at)
   may_one (suc d) p at = refl
 

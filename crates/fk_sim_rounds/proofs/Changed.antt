@@ -227,9 +227,10 @@ module _ (core : List CoreOp) (image : Image) (places : Places) (nestings : Nest
               (λ y.
               let here : Begins g = record {
                 distance = x.0.distance;
+                inner = 0;
                 alike =
                     subst
-                    (λ k. AllAct (core_source core setting) image plan' blocks' k (of_node g nodes' all.stages) (of_node g nodes' (numbered 0 hs)) (of_node g nodes' (all_landed core (owners_after old tree ds))))
+                    (λ k. AllAct (core_source core setting) image plan' blocks' k 0 (of_node g nodes' all.stages) (of_node g nodes' (numbered 0 hs)) (of_node g nodes' (all_landed core (owners_after old tree ds))))
                     (sym x.1) (all.alike g lock y.0);
                 together = y.1;
               } in

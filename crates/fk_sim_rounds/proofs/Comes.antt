@@ -178,8 +178,8 @@ module _ (core : List CoreOp) (image : Image) (places : Places) (nestings : Nest
   -- ---- stages some cycles earlier
 
   acts_earlier : (t : MachineSetting) (g n d : ℕ) (m : Member) (hart : Hart) (p : Owner) → RunsPrivately image t m.number n m.hart hart
-      → StandsAt (core_source core setting) image plan blocks (in_cycles n t) g (Acts d) (record m { hart = hart }) p
-      → StandsAt (core_source core setting) image plan blocks t g (Acts (n + d)) m p
+      → StandsAt (core_source core setting) image plan blocks (in_cycles n t) g (Acts d 0) (record m { hart = hart }) p
+      → StandsAt (core_source core setting) image plan blocks t g (Acts (n + d) 0) m p
   acts_earlier t g n d m hart p private stands =
       (stands.0, does_later (core_source core setting) image t 1 d stands.0 n m hart p (λ h x. blocks.AfterOne g stands.0 (record m { hart = h }) p x) private stands.1)
 
@@ -293,11 +293,11 @@ module _ (core : List CoreOp) (image : Image) (places : Places) (nestings : Nest
         let few = the_law.few_before i in
         let le = a.few in
         record {
-          stage = Acts (a.to_block + d);
+          stage = Acts (a.to_block + d) 0;
           fresh = tt;
           stands = acts_earlier t g a.to_block d m a.hart p a.private
               (members_stand_at_stages core image places nestings cycles firsts main setting plan (first_of spaces) u g i op operation here p the_law stands may.alone enters member may.frame);
-          due = record { step = step_at core i op operation p.runner.left.callers; next_is = is_next; joint = λ free. alone_joint operation may.alone };
+          due = record { single = refl; step = step_at core i op operation p.runner.left.callers; next_is = is_next; joint = λ free. alone_joint operation may.alone };
           soon = omega (arith, few, le);
         }
 
@@ -309,10 +309,10 @@ module _ (core : List CoreOp) (image : Image) (places : Places) (nestings : Nest
         let few = halts.1 in
         let le = a.few in
         record {
-          stage = Acts (a.to_block + halts.0);
+          stage = Acts (a.to_block + halts.0) 0;
           fresh = tt;
           stands = acts_earlier t g a.to_block halts.0 m a.hart p a.private halts.2;
-          due = record { step = step_at core i op operation p.runner.left.callers; next_is = is_next; joint = λ free. ap joint_of e };
+          due = record { single = refl; step = step_at core i op operation p.runner.left.callers; next_is = is_next; joint = λ free. ap joint_of e };
           soon = omega (arith, few, le);
         }
 

@@ -104,7 +104,7 @@ meets_counts plan w number v f k false e inside member = absent_counts (plan.mem
 stage_counts : (plan : Plan) (w number : ℕ) (s : Stage) (k : ℕ) → Fine plan number s
     → and_member (phase_of w (plan.member w number) (Some s)) k ≡ mark (plan.member w number) k
 stage_counts plan w number Ended k fine = absent_counts (plan.member w number) k
-stage_counts plan w number (Acts d) k fine = absent_counts (plan.member w number) k
+stage_counts plan w number (Acts d inner) k fine = absent_counts (plan.member w number) k
 stage_counts plan w number (Meets e v f) k fine = meets_counts plan w number v f k (v == w) refl fine.0 fine.1
 
 phase_counts : (plan : Plan) (w number : ℕ) (here : Bool) (s : Stage) (k : ℕ) → (here ≡ true → Fine plan number s)
@@ -137,7 +137,7 @@ all_new g ns hs afters many all = absurd (assumption many)
 module _ {S P D : Type 0} (source : Source S P D) (image : Image) (plan : Plan) (blocks : Blocks P D) (plan' : Plan) (blocks' : Blocks P D) where
   stands_fine : (t : Setting) (g : ℕ) (s : Stage) (m : Member) (p : P) → StandsAt source image plan' blocks' t g s m p → Fine plan' m.number s
   stands_fine t g Ended m p stands = tt
-  stands_fine t g (Acts d) m p stands = tt
+  stands_fine t g (Acts d inner) m p stands = tt
   stands_fine t g (Meets e v f) m p stands = (stands.0, stands.2)
 
   pub all_fine : (t : Setting) (g number : ℕ) (hs : List Hart) (ns ns' : List ℕ) (afters : List (Option Stage)) (stages : List Stage) (ps ps' : List P) → plan'.in_lockstep g ≡ false

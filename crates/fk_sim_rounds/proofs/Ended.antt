@@ -34,7 +34,7 @@ use Rattle.fk_sim_rounds.proofs.Landed.{next_landed}
 -- by its stage
 abbrev IsLive : Stage → Hart → Type 0
 IsLive Ended h = h.ended ≡ true
-IsLive (Acts d) h = h.ended ≡ false
+IsLive (Acts d inner) h = h.ended ≡ false
 IsLive (Meets e w f) h = h.ended ≡ false
 
 abbrev AllLive : List Stage → List Member → Type 0
@@ -47,33 +47,34 @@ NoneEnded [] = Unit {0}
 NoneEnded (m ∷ ms) = (m.hart.ended ≡ false) × NoneEnded ms
 
 -- who runs a commit has not ended
-counted_live : (image : Image) (h : Hart) (b : Bool) → h.ended ≡ b → count_of image (runs h) ≡ 1 → h.ended ≡ false
-counted_live image h false e counted = e
-counted_live image h true e counted =
+counted_live : (image : Image) (inner : ℕ) (h : Hart) (b : Bool) → h.ended ≡ b → count_of image (runs h) ≡ suc inner → h.ended ≡ false
+counted_live image inner h false e counted = e
+counted_live image inner h true e counted =
     let none : count_of image (runs h) ≡ 0 = ap (λ b. count_of image (cond b None (Some h.pc))) e in absurd (let f = sym none ∙ counted in omega (arith, f))
 
-all_counted : (image : Image) (ms : List Member) → AllCount image 1 ms → NoneEnded ms
-all_counted image [] counted = tt
-all_counted image (m ∷ ms) counted = (counted_live image m.hart m.hart.ended refl counted.0, all_counted image ms counted.1)
+all_counted : (image : Image) (inner : ℕ) (ms : List Member) → AllCount image (suc inner) ms → NoneEnded ms
+all_counted image inner [] counted = tt
+all_counted image inner (m ∷ ms) counted = (counted_live image inner m.hart m.hart.ended refl counted.0, all_counted image inner ms counted.1)
 
 cycle_live : (image : Image) (mine : Words) (t : MachineSetting) (ms : List Member) (own : Memory) (Then : List Member → Memory → Type 0) → NodeCycle image mine t 0 ms own Then → NoneEnded ms
 cycle_live image mine t [] own Then x = tt
 cycle_live image mine t (m ∷ ms) own Then x = (x.2.live, cycle_live image mine t ms x.1 (λ ms' own'. Then (record m { hart = x.0 } ∷ ms') own') x.3)
 
 module _ {S P D : Type 0} (source : Source S P D) (image : Image) (plan : Plan) (blocks : Blocks P D) where
-  pub together_live : (mine : Words) (t : MachineSetting) (d : ℕ) (ms : List Member) (ps : List P) (own : Memory) (Then : List Member → List D → Memory → Type 0) → Together source image mine t 1 d ms ps own Then → NoneEnded ms
-  together_live mine t zero ms ps own Then x = all_counted image ms x.counted
-  together_live mine t (suc d) ms ps own Then x = cycle_live image mine t ms own _ x
+  pub together_live : (mine : Words) (t : MachineSetting) (inner d : ℕ) (ms : List Member) (ps : List P) (own : Memory) (Then : List Member → List D → Memory → Type 0) → Together source image mine t (suc inner) d ms ps own Then
+      → NoneEnded ms
+  together_live mine t inner zero ms ps own Then x = all_counted image inner ms x.counted
+  together_live mine t inner (suc d) ms ps own Then x = cycle_live image mine t ms own _ x
 
-  act_live : (d : ℕ) (stages : List Stage) (ms : List Member) (ps : List P) → AllAct source image plan blocks d stages ms ps → NoneEnded ms → AllLive stages ms
-  act_live d [] [] [] all live = tt
-  act_live d (s ∷ stages) (m ∷ ms) (p ∷ ps) all live = (subst (λ x. IsLive x m.hart) (sym all.0) live.0, act_live d stages ms ps all.1 live.1)
-  act_live d stages ms ps all live = absurd (assumption all)
+  act_live : (d inner : ℕ) (stages : List Stage) (ms : List Member) (ps : List P) → AllAct source image plan blocks d inner stages ms ps → NoneEnded ms → AllLive stages ms
+  act_live d inner [] [] [] all live = tt
+  act_live d inner (s ∷ stages) (m ∷ ms) (p ∷ ps) all live = (subst (λ x. IsLive x m.hart) (sym all.0) live.0, act_live d inner stages ms ps all.1 live.1)
+  act_live d inner stages ms ps all live = absurd (assumption all)
 
   stands_live : (t : MachineSetting) (g : ℕ) (s : Stage) (m : Member) (p : P) → JointBlocksTurn source image plan blocks → StandsAt source image plan blocks t g s m p → IsLive s m.hart
   stands_live t g Ended m p joint stands = stands
-  stands_live t g (Acts zero) m p joint stands = let l = stands.1 in ap (λ h. h.ended) l.runs ∙ l.commits.live
-  stands_live t g (Acts (suc d)) m p joint stands = let l = stands.1 in l.runs.1.live
+  stands_live t g (Acts zero inner) m p joint stands = let l = stands.1 in ap (λ h. h.ended) l.runs ∙ l.commits.live
+  stands_live t g (Acts (suc d) inner) m p joint stands = let l = stands.1 in l.runs.1.live
   stands_live t g (Meets e w f) m p joint stands = (joint t g e w f m p (λ i. 0) stands.0 stands.1 stands.3).stays.live
 
   all_stand_live : (t : MachineSetting) (g : ℕ) (stages : List Stage) (ms : List Member) (ps : List P) → JointBlocksTurn source image plan blocks → AllStandAt source image plan blocks t g stages ms ps → AllLive stages ms
@@ -83,7 +84,7 @@ module _ {S P D : Type 0} (source : Source S P D) (image : Image) (plan : Plan) 
 
   node_live : (b : Bool) (t : MachineSetting) (g : ℕ) (stages : List Stage) (ms : List Member) (ps : List P) (own : Memory) → JointBlocksTurn source image plan blocks → Binds source image plan blocks b t g stages ms ps own
       → AllLive stages ms
-  node_live true t g stages ms ps own joint x = act_live x.distance stages ms ps x.alike (together_live (plan.words g) t x.distance ms ps own _ x.together)
+  node_live true t g stages ms ps own joint x = act_live x.distance x.inner stages ms ps x.alike (together_live (plan.words g) t x.inner x.distance ms ps own _ x.together)
   node_live false t g stages ms ps own joint x = all_stand_live t g stages ms ps joint x
 
 -- ---- all harts
@@ -112,7 +113,7 @@ module _ (core : List CoreOp) (setting : Setting) (leads : JumpsLead core) (tree
   ended_done number [] [] [] live due = refl
   ended_done number (Ended ∷ stages) (h ∷ hs) (r ∷ rs) live due =
       ap₂ ◌&&◌ (live.0 ∙ ap is_none (sym (sym (next_landed core leads r.left) ∙ due.1))) (ended_done (suc number) stages hs rs live.1 due.2)
-  ended_done number (Acts d ∷ stages) (h ∷ hs) (r ∷ rs) live due =
+  ended_done number (Acts d inner ∷ stages) (h ∷ hs) (r ∷ rs) live due =
       ap₂ ◌&&◌ (live.0 ∙ ap is_none (sym (sym (next_landed core leads r.left) ∙ due.1.next_is))) (ended_done (suc number) stages hs rs live.1 due.2)
   ended_done number (Meets e w f ∷ stages) (h ∷ hs) (r ∷ rs) live due =
       ap₂ ◌&&◌ (live.0 ∙ ap is_none (sym (sym (next_landed core leads r.left) ∙ due.1.1.next_is))) (ended_done (suc number) stages hs rs live.1 due.2)

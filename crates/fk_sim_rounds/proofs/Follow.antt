@@ -17,7 +17,7 @@ use Rattle.fk_sim_nodes.specs.Source.{AllPass, FaultsAfter}
 use Rattle.fk_sim_nodes.specs.Alone.{later}
 use Rattle.fk_sim_nodes.specs.Node.{Member, Words, numbered}
 use Rattle.fk_sim_nodes.specs.Whole.{planned, first_of, IsCut}
-use Rattle.fk_sim_match.specs.Stage.{Stage, counts_for}
+use Rattle.fk_sim_match.specs.Stage.{Stage, counts_for, AllDoOne}
 use Rattle.fk_sim_match.specs.Plan.{IsBound}
 use Rattle.fk_sim_block.specs.Owner.{Commons, Heaps, Owner, idle, core_source}
 use Rattle.fk_sim_block.specs.Stands.{Places}
@@ -49,7 +49,7 @@ use Rattle.fk_sim_rounds.specs.Union.{AreNearBegin, AllLandAt}
 use Rattle.fk_sim_rounds.specs.Follow.{IsFollowed, FollowsRound, FollowsFault, FollowsUnion, CyclesFollowRounds}
 use Rattle.fk_sim_rounds.proofs.Landed.{landing_twice, allowed_land}
 use Rattle.fk_sim_rounds.specs.Homes.{AllHome, AllNext, PartsAreTold}
-use Rattle.fk_sim_rounds.proofs.Results.{is_after, is_fault}
+use Rattle.fk_sim_rounds.proofs.Results.{due_do_one, is_after, is_fault}
 use Rattle.fk_sim_rounds.proofs.Homes.{homes_stay, homes_go_on}
 
 -- ---- the landed state as the plan has it
@@ -143,11 +143,11 @@ module _ (core : List CoreOp) (image : Image) (places : Places) (nestings : Nest
 -- a cycle that is cut is a stopped round
 pub cut_follows : (core : List CoreOp) (image : Image) (places : Places) (nestings : Nestings) (setting : Setting) (spaces : ℕ → Space) (s : State Position) (nodes : List ℕ) (t : MachineSetting) (printed : List ℕ)
     (stages : List Stage) (hs : List Hart) (sh : Shared) (words : ℕ → Words) (ps : List Owner) (shared : Commons) → JumpsLead core → AreInOrder 0 s.runners → IsBeside core setting s ps shared
-    → is_allowed (next core) setting (counts_for stages) s ≡ true → planned image hs ≡ counts_for stages → IsCut (core_source core setting) image words printed 0 hs ps shared (turns t 0 hs sh)
+    → AllDoOne stages → is_allowed (next core) setting (counts_for stages) s ≡ true → planned image hs ≡ counts_for stages → IsCut (core_source core setting) image words printed 0 hs ps shared (turns t 0 hs sh)
     → FollowsFault core image places nestings setting spaces s nodes t printed stages hs sh
-cut_follows core image places nestings setting spaces s nodes t printed stages hs sh words ps shared leads order beside may counts c =
+cut_follows core image places nestings setting spaces s nodes t printed stages hs sh words ps shared leads order beside ones may counts c =
     let zero_is : 0 + c.place ≡ c.place = omega arith in
-    let fault = is_fault core setting s ps shared leads order beside stages c.place c.site c.store (subst (λ x. FaultsAfter (core_source core setting) c.place c.site x ps shared c.store) counts c.faults) in
+    let fault = is_fault core setting s ps shared leads order beside stages c.place c.site c.store ones (subst (λ x. FaultsAfter (core_source core setting) c.place c.site x ps shared c.store) counts c.faults) in
     record {
       site = c.site;
       place = c.place;
@@ -179,6 +179,7 @@ follows_apart : (core : List CoreOp) (image : Image) (places : Places) (nestings
 follows_apart core image places nestings cycles firsts main setting spaces s nodes t printed stages hs sh the_law leads few f nobody =
     let source = core_source core setting in
     let done = turns t 0 hs sh in
+    let ones = due_do_one core s.tree spaces 0 stages (runners_of f.ps) f.before.due in
     let may = allowed core image places nestings setting spaces s nodes t printed stages hs sh leads f in
     let cycle = cycles_bind_again core image places nestings cycles firsts main setting s.tree spaces nodes t printed stages hs f.ps (λ g. sh.control) sh f.shared the_law leads f.before few f.shows
     (λ g i o. refl) f.bound nobody in
@@ -188,14 +189,14 @@ follows_apart core image places nestings cycles firsts main setting spaces s nod
           (λ r.
           let whole = r.whole in
           let new = tree_after s.tree whole.did in
-          let after = is_after core setting s f.ps f.shared leads f.order f.beside stages whole.did whole.store
+          let after = is_after core setting s f.ps f.shared leads f.order f.beside stages whole.did whole.store ones
           (subst (λ c. AllPass source c f.ps f.shared whole.did whole.store) cycle.0 whole.parts) in
           let e : next_state.tree ≡ new = after.tree in
           let harts = (many_length nodes done.harts whole.did whole.as_many).1 in
           let as_many = f.before.many in
           let homes : IsKnownRound s.tree whole.did → PartsAreTold new spaces 0 whole.did (owners_after s.tree new whole.did) → AllHome new spaces 0 (owners_after s.tree new whole.did)
           = λ known told.
-          homes_stay core setting s.tree spaces stages f.ps whole.did f.shared whole.store f.before.sound (omega (arith, harts, as_many)) f.homes
+          homes_stay core setting s.tree spaces stages f.ps whole.did f.shared whole.store f.before.sound (omega (arith, harts, as_many)) f.homes ones
           (subst (λ c. AllPass source c f.ps f.shared whole.did whole.store) cycle.0 whole.parts) known told in
           inl
           (record {
@@ -214,6 +215,7 @@ follows_apart core image places nestings cycles firsts main setting spaces s nod
               store = whole.store;
               order = f.order;
               beside = f.beside;
+              singles = ones;
               passes = subst (λ c. AllPass source c f.ps f.shared whole.did whole.store) cycle.0 whole.parts;
               stay = r.left.stay;
             };
@@ -258,7 +260,7 @@ follows_apart core image places nestings cycles firsts main setting spaces s nod
                       (all_landed core (owners_after s.tree x whole.did)) (λ g. sh.control) done.shared.control) (sym e) b.on,
                 );
           }))
-          (λ c. inr (inl (cut_follows core image places nestings setting spaces s nodes t printed stages hs sh (plan_of s.tree spaces nodes).words f.ps f.shared leads f.order f.beside may cycle.0 c)))
+          (λ c. inr (inl (cut_follows core image places nestings setting spaces s nodes t printed stages hs sh (plan_of s.tree spaces nodes).words f.ps f.shared leads f.order f.beside ones may cycle.0 c)))
           cycle.1,
     )
 
@@ -287,7 +289,7 @@ lands_at core i (p ∷ ps) [] same at = absurd (cc)
 
 acts_near : (d : ℕ) → d < most_united → (ms : List Member) → AreNearBegin (all_act d ms)
 acts_near d few [] = tt
-acts_near d few (m ∷ ms) = (few, acts_near d few ms)
+acts_near d few (m ∷ ms) = ((few, refl), acts_near d few ms)
 
 -- where all have met
 follows_union : (core : List CoreOp) (image : Image) (places : Places) (nestings : Nestings) (cycles : Cycles) (firsts : List ℕ) (main : ℕ) (setting : Setting) (spaces : ℕ → Space) (s : State Position) (nodes : List ℕ)
@@ -296,13 +298,14 @@ follows_union : (core : List CoreOp) (image : Image) (places : Places) (nestings
 follows_union core image places nestings cycles firsts main setting spaces s nodes t printed stages hs sh the_law leads few f some =
     let source = core_source core setting in
     let done = turns t 0 hs sh in
+    let ones = due_do_one core s.tree spaces 0 stages (runners_of f.ps) f.before.due in
     let may = allowed core image places nestings setting spaces s nodes t printed stages hs sh leads f in
     let cycle = cycles_unite core image places nestings cycles firsts main setting s.tree spaces nodes t printed stages hs f.ps (λ g. sh.control) sh f.shared the_law f.before few f.shows
     (λ g i o. refl) f.bound some in
     let next_state = result (next core) setting (counts_for stages) s in
     let x = cycle.1 in
     let whole = x.whole in
-    let after = is_after core setting s f.ps f.shared leads f.order f.beside stages whole.did whole.store
+    let after = is_after core setting s f.ps f.shared leads f.order f.beside stages whole.did whole.store ones
     (subst (λ c. AllPass source c f.ps f.shared whole.did whole.store) cycle.0 whole.parts) in
     let new = tree_after s.tree whole.did in
     let tree_stays : new ≡ s.tree = all_keep (actings whole.did) s.tree whole.did s.tree (subst AllKeep (sym x.idle) (idle_keep f.ps)) in

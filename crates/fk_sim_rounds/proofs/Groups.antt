@@ -207,7 +207,7 @@ module _ (core : List CoreOp) (image : Image) (places : Places) (nestings : Nest
             soon = omega arith;
             goes = inl (record {
               grouped = lock;
-              busy = λ gone. let none = none_both (Acts x.0) (of_node g nodes afters) x.1 gone in there_are nodes g afters stands ((many_length nodes hs afters as_a).1) none;
+              busy = λ gone. let none = none_both (Acts x.0 x.1) (of_node g nodes afters) x.2 gone in there_are nodes g afters stands ((many_length nodes hs afters as_a).1) none;
               same = alike;
               words = sym words;
               after = λ u ms xs own y. after_same u ms xs own y;
@@ -224,4 +224,4 @@ module _ (core : List CoreOp) (image : Image) (places : Places) (nestings : Nest
             nobody_halts core image places nestings cycles firsts main setting old tree spaces nodes nodes' the_law leads spaced sound t running (actings ds) g (of_node g nodes (numbered 0 hs))
                 (of_node g nodes ds) home keep (members_there g stands) (agrees g kind) (own' g) x.1,
           ))
-          (λ x. inl (x.0, x.1, x.2)) (as_group g lock)
+          (λ x. inl (x.0, x.1, x.2, x.3)) (as_group g lock)

@@ -29,7 +29,7 @@ use Rattle.fk_sim_block.specs.Node.{Nestings, StandsInNode}
 use Rattle.fk_sim_block.specs.Law.{Cycles, GroupLaw}
 use Rattle.fk_sim_match.specs.Nodes.{first_of, HaveSpaces, is_lockstep, plan_of}
 use Rattle.fk_sim_match.specs.Behind.{runs_of, StandsByEnding, IsBehind, blocks_of}
-use Rattle.fk_sim_match.specs.Rounds.{joint_at_word, ending_of, IsDueAt, AllDue}
+use Rattle.fk_sim_match.specs.Rounds.{joint_at_word, ending_of, IsDue, IsDueAt, AllDue}
 use Rattle.fk_sim_rounds.specs.Next.{JumpsLead, landed, all_landed, IsHome, HasNext}
 use Rattle.fk_sim_rounds.specs.Comes.{most_between, IsSoon}
 use Rattle.fk_sim_rounds.specs.After.{runners_of, owner_after, halts, ArePlaces, AllLanded, AllGoOn, AllSoon}
@@ -53,20 +53,20 @@ tail_of (x ∷ xs) = xs
 
 -- members of a group in lockstep: all have kept a stage and done nothing, or all have committed
 abbrev pub LockLeft : List (Option Stage) → List Owner → List Doing → Type 0
-LockLeft afters ps ds = ((e : ℕ) × AllStay (Acts e) afters × (ds ≡ map idle ps)) ⊎ (AllHaveCommitted afters × AllOn ds)
+LockLeft afters ps ds = ((e : ℕ) × (inner : ℕ) × AllStay (Acts e inner) afters × (ds ≡ map idle ps)) ⊎ (AllHaveCommitted afters × AllOn ds)
 
 abbrev pub OneLeft : Option Stage → Owner → Doing → Type 0
-OneLeft a p d = ((e : ℕ) × (a ≡ Some (Acts e)) × (d ≡ idle p)) ⊎ ((a ≡ None) × (halts d.acting.due ≡ false))
+OneLeft a p d = ((e : ℕ) × (inner : ℕ) × (a ≡ Some (Acts e inner)) × (d ≡ idle p)) ⊎ ((a ≡ None) × (halts d.acting.due ≡ false))
 
 lock_first : (b : Bool) (a : Option Stage) (afters : List (Option Stage)) (p : Owner) (ps : List Owner) (d : Doing) (ds : List Doing) → b ≡ true
     → LockLeft (add b a afters) (add b p ps) (add b d ds) → OneLeft a p d
-lock_first true a afters p ps d ds e (inl x) = inl (x.0, x.1.0, ap (head_or d) x.2)
+lock_first true a afters p ps d ds e (inl x) = inl (x.0, x.1, x.2.0, ap (head_or d) x.3)
 lock_first true a afters p ps d ds e (inr x) = inr (x.0.0, x.1.0)
 lock_first false a afters p ps d ds e x = absurd (false≢true e)
 
 lock_rest : (b : Bool) (a : Option Stage) (afters : List (Option Stage)) (p : Owner) (ps : List Owner) (d : Doing) (ds : List Doing)
     → LockLeft (add b a afters) (add b p ps) (add b d ds) → LockLeft afters ps ds
-lock_rest true a afters p ps d ds (inl x) = inl (x.0, x.1.1, ap tail_of x.2)
+lock_rest true a afters p ps d ds (inl x) = inl (x.0, x.1, x.2.1, ap tail_of x.3)
 lock_rest true a afters p ps d ds (inr x) = inr (x.0.1, x.1.1)
 lock_rest false a afters p ps d ds x = x
 
@@ -78,7 +78,7 @@ Inside s = Unit {0}
 module _ (core : List CoreOp) (tree : Tree) (spaces : ℕ → Space) where
   due_keeps : (g : ℕ) (s0 s : Stage) (r : Runner Position) → IsDueAt core tree spaces g s0 r → SameKind s0 s → Inside s → IsDueAt core tree spaces g s r
   due_keeps g Ended Ended r due same inside = due
-  due_keeps g (Acts d) (Acts d') r due same inside = due
+  due_keeps g (Acts d inner) (Acts d' inner') r due same inside = subst (λ i. IsDue core tree spaces g i r) (sym same) due
   due_keeps g (Meets e w f) (Meets e' v f') r due same inside = (
     inside,
     record {
@@ -121,7 +121,7 @@ module _ (core : List CoreOp) (image : Image) (places : Places) (nestings : Nest
     pub changes : Changes (core_source core setting) image plan blocks plan' blocks' t m (old.places m.number) (tree.places m.number) a stage p (becomes d)
     pub due : IsDueAt core tree spaces (tree.places m.number) stage (becomes d).runner
     pub soon : a ≡ None → IsSoon stage
-    pub alike : plan'.in_lockstep (tree.places m.number) ≡ true → a ≡ None → stage ≡ Acts (distances (tree.places m.number))
+    pub alike : plan'.in_lockstep (tree.places m.number) ≡ true → a ≡ None → stage ≡ Acts (distances (tree.places m.number)) 0
 
   -- who does nothing stays where it is
   idle_stays : (p : Owner) (d : Doing) → landing core p.runner.left.at ≡ p.runner.left.at → d ≡ idle p → becomes d ≡ p
@@ -130,7 +130,7 @@ module _ (core : List CoreOp) (image : Image) (places : Places) (nestings : Nest
   stays_member : (g : ℕ) (s : Stage) (m : Member) (p : Owner) → SameNode old tree spaces g → StandsAt (core_source core setting) image plan blocks t g s m p
       → StaysMember plan' g m.number s × Inside s
   stays_member g Ended m p same stands = (tt, tt)
-  stays_member g (Acts d) m p same stands = (tt, tt)
+  stays_member g (Acts d inner) m p same stands = (tt, tt)
   stays_member g (Meets e w f) m p same stands =
       ((opens_still old tree spaces nodes nodes' g same.words w stands.1, member_still old tree spaces nodes nodes' g same.words w m.number stands.1 ∙ stands.2), stands.0)
 
@@ -146,7 +146,7 @@ module _ (core : List CoreOp) (image : Image) (places : Places) (nestings : Nest
 
   due_still : (g : ℕ) (s : Stage) (r : Runner Position) → trees.kind tree g ≡ trees.kind old g → IsDueAt core old spaces g s r → IsDueAt core tree spaces g s r
   due_still g Ended r same due = due
-  due_still g (Acts d) r same due = record { step = due.step; next_is = due.next_is; joint = λ free. due.joint (ap is_lockstep (sym same) ∙ free) }
+  due_still g (Acts d inner) r same due = record { single = due.single; step = due.step; next_is = due.next_is; joint = λ free. due.joint (ap is_lockstep (sym same) ∙ free) }
   due_still g (Meets e w f) r same due = (
     due.0,
     record {
@@ -190,15 +190,16 @@ module _ (core : List CoreOp) (image : Image) (places : Places) (nestings : Nest
     in_group : (s0 : Stage) (a : Option Stage) → plan.in_lockstep g ≡ true → OneLeft a p d → IsDueAt core old spaces g s0 p.runner → Remains s0 a
         → (a ≡ None → halts d.acting.due ≡ false → HasNext core nestings setting tree m.number (becomes d)) → HartGoes m a p d
     in_group s0 a lock (inl x) due remains has =
-        subst (λ b. HartGoes m b p d) (sym x.1) (kept s0 (Acts x.0) x.2 due (subst (λ b. Remains s0 b) x.1 remains).2 tt tt)
+        subst (λ b. HartGoes m b p d) (sym x.2) (kept s0 (Acts x.0 x.1) x.3 due (subst (λ b. Remains s0 b) x.2 remains).2 tt tt)
     in_group s0 a lock (inr x) due remains has =
         let next = has x.0 x.1 in
         let q = becomes d in
         subst (λ b. HartGoes m b p d) (sym x.0)
         (record {
-          stage = Acts (distances (tree.places m.number));
+          stage = Acts (distances (tree.places m.number)) 0;
           changes = (tt, λ free. absurd (false≢true (sym free ∙ lock_same ∙ lock)));
           due = record {
+            single = refl;
             step = step_at core q.runner.left.at next.op next.operation q.runner.left.callers;
             next_is = next_here core q.runner.left.at next.op next.operation q.runner.left.callers next.stands;
             joint = λ free. absurd (false≢true (sym free ∙ lock_same ∙ lock));
@@ -257,9 +258,10 @@ module _ (core : List CoreOp) (image : Image) (places : Places) (nestings : Nest
       let next = has refl in
       let q = becomes d in
       record {
-        stage = Acts (distances (tree.places m.number));
+        stage = Acts (distances (tree.places m.number)) 0;
         changes = (tt, λ free. absurd (false≢true (sym free ∙ lock)));
         due = record {
+          single = refl;
           step = step_at core q.runner.left.at next.op next.operation q.runner.left.callers;
           next_is = next_here core q.runner.left.at next.op next.operation q.runner.left.callers next.stands;
           joint = λ free. absurd (false≢true (sym free ∙ lock));
@@ -275,7 +277,7 @@ module _ (core : List CoreOp) (image : Image) (places : Places) (nestings : Nest
       → law.StandsAt places (settle d) hart
       → StandsInNode places nestings setting (runs_of (plan_of tree spaces nodes') (first_of spaces (tree.places m.number)) m.number) (settle d) hart
       → (a ≡ None → halts d.acting.due ≡ false → HasNext core nestings setting tree m.number (becomes d)) → HartGoes m a p d
-  steps_apart m p d lt home busy a free (inl x) b hart few private at node has = absurd (busy x.2)
+  steps_apart m p d lt home busy a free (inl x) b hart few private at node has = absurd (busy x.3)
   steps_apart m p d lt home busy a free (inr x) b hart few private at node has =
       let come = comes core image places nestings cycles firsts main setting tree spaces nodes' the_law leads t b m hart (settle d) (node_is_there core image places nestings cycles firsts main setting old tree spaces nodes nodes' the_law leads spaced sound t running acting m.number lt) free running lt few private at node home
       (has x.0 x.1) in
@@ -291,15 +293,16 @@ module _ (core : List CoreOp) (image : Image) (places : Places) (nestings : Nest
   -- or is in a group still, or in another one
   pub steps_to_group : (m : Member) (p : Owner) (d : Doing) → (d ≡ idle p → ⊥) → (a : Option Stage) → plan'.in_lockstep (tree.places m.number) ≡ true → OneLeft a p d
       → (a ≡ None → halts d.acting.due ≡ false → HasNext core nestings setting tree m.number (becomes d)) → HartGoes m a p d
-  steps_to_group m p d busy a lock (inl x) has = absurd (busy x.2)
+  steps_to_group m p d busy a lock (inl x) has = absurd (busy x.3)
   steps_to_group m p d busy a lock (inr x) has =
       let next = has x.0 x.1 in
       let q = becomes d in
       subst (λ c. HartGoes m c p d) (sym x.0)
       (record {
-        stage = Acts (distances (tree.places m.number));
+        stage = Acts (distances (tree.places m.number)) 0;
         changes = (tt, λ free. absurd (false≢true (sym free ∙ lock)));
         due = record {
+          single = refl;
           step = step_at core q.runner.left.at next.op next.operation q.runner.left.callers;
           next_is = next_here core q.runner.left.at next.op next.operation q.runner.left.callers next.stands;
           joint = λ free. absurd (false≢true (sym free ∙ lock));
@@ -320,10 +323,10 @@ module _ (core : List CoreOp) (image : Image) (places : Places) (nestings : Nest
     pub due : AllDue core tree spaces number stages (runners_of (all_become ds))
     pub soon : AllSoon afters stages
     pub alike : (g : ℕ) → plan'.in_lockstep g ≡ true → AllHaveCommitted (of_node g ns' afters)
-        → AllAct (core_source core setting) image plan' blocks' (distances g) (of_node g ns' stages) (of_node g ns' (numbered number hs)) (of_node g ns' (all_become ds))
+        → AllAct (core_source core setting) image plan' blocks' (distances g) 0 (of_node g ns' stages) (of_node g ns' (numbered number hs)) (of_node g ns' (all_become ds))
 
-  act_first : (d : ℕ) (b : Bool) (s : Stage) (stages : List Stage) (m : Member) (ms : List Member) (p : Owner) (ps : List Owner) → (b ≡ true → s ≡ Acts d)
-      → AllAct (core_source core setting) image plan' blocks' d stages ms ps → AllAct (core_source core setting) image plan' blocks' d (add b s stages) (add b m ms) (add b p ps)
+  act_first : (d : ℕ) (b : Bool) (s : Stage) (stages : List Stage) (m : Member) (ms : List Member) (p : Owner) (ps : List Owner) → (b ≡ true → s ≡ Acts d 0)
+      → AllAct (core_source core setting) image plan' blocks' d 0 stages ms ps → AllAct (core_source core setting) image plan' blocks' d 0 (add b s stages) (add b m ms) (add b p ps)
   act_first d true s stages m ms p ps one all = (one refl, all)
   act_first d false s stages m ms p ps one all = all
 
@@ -378,7 +381,7 @@ module _ (core : List CoreOp) (image : Image) (places : Places) (nestings : Nest
             act_first (distances k) (n' == k) one.stage (of_node k ns' rest.stages) m (of_node k ns' (numbered (suc number) hs)) (becomes d) (of_node k ns' (all_become ds))
             (λ e.
             let same : tree.places number ≡ k = sym here' ∙ eqb-true n' k e in
-            one.alike (subst (λ j. plan'.in_lockstep j ≡ true) (sym same) is) (parts.0 e) ∙ ap (λ j. Acts (distances j)) same)
+            one.alike (subst (λ j. plan'.in_lockstep j ≡ true) (sym same) is) (parts.0 e) ∙ ap (λ j. Acts (distances j) 0) same)
             (rest.alike k is parts.1);
       }
   harts_go Fact each number ns hs ns' afters stages ps ds facts places places' many as_a as_p as_d as_n remains due there on lock alone = absurd (assumption (as_a, as_p, as_d, as_n, remains))

@@ -408,8 +408,8 @@ module _ (core : List CoreOp) (setting : Setting) (spaces : ℕ → Space) (old 
   all_home number ps ds many steps who_are home levels told = absurd (assumption levels)
 
 pub homes_stay : HomesStay
-homes_stay core setting tree spaces stages ps did shared shared' sound long home all known told =
-    let levels = all_levels core setting (counts_for stages) ps shared did shared' (counts_are_units stages) all in
+homes_stay core setting tree spaces stages ps did shared shared' sound long home ones all known told =
+    let levels = all_levels core setting (counts_for stages) ps shared did shared' (counts_are_units stages ones) all in
     all_home core setting spaces tree sound did known long 0 ps did (omega (arith, long)) known.steps (are_who did) home levels told
 
 -- ---- what is to be known of who goes on

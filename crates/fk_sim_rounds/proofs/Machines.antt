@@ -63,7 +63,7 @@ module _ (core : List CoreOp) (image : Image) (places : Places) (nestings : Nest
       = of_all s.tree 0 nodes hs (numbered 0 hs) (λ h le lt. f.before.in_root h (omega (arith, lt, many))) f.before.stand (many_numbered 0 nodes hs f.ps f.before.as_many) in
       none_ended 0 hs (λ none. omega (arith, none, long, many, some))
       (subst NoneEnded all
-      (together_live (core_source core setting) image plan blocks (plan.words 0) t group.distance (of_node 0 nodes (numbered 0 hs)) (of_node 0 nodes f.ps) sh.control _ group.together))
+      (together_live (core_source core setting) image plan blocks (plan.words 0) t group.inner group.distance (of_node 0 nodes (numbered 0 hs)) (of_node 0 nodes f.ps) sh.control _ group.together))
 
   goes_to_start : (m : Machine) (s : State Position) (nodes : List ℕ) (printed : List ℕ) (stages : List Stage) → (turns_of m).stop ≡ None → length (turns_of m).harts ≡ length m.harts
       → IsUnited core image places nestings setting spaces s nodes (later (setting_of m)) printed stages (turns_of m).harts (unprinted (turns_of m).shared)

@@ -68,18 +68,18 @@ module _ (core : List CoreOp) (image : Image) (places : Places) (nestings : Nest
       absurd (no_groups setting.processors old before.sound before.in_root g ne (lockstep_kind (trees.kind old g) is) (trees.members old g) refl))
       (cases_eq g 0)
 
-  all_stay : (d number : ℕ) (gs : List Hart) (ns : List ℕ) (afters : List (Option Stage)) (qs : List Owner) → ((h : ℕ) → number ≤ h → h < number + length ns → old.places h ≡ 0)
-      → ArePlaces old number ns → AreAsMany ns gs afters → AreAsMany ns gs qs → AllKeep (Acts d) afters
-      → AllChange (core_source core setting) image plan blocks plan blocks (later t) (numbered number gs) ns ns afters (all_at (Acts d) afters) qs qs
-  all_stay d number [] [] [] [] root here as_a as_p keep = tt
-  all_stay d number (h ∷ gs) (n ∷ ns) (a ∷ afters) (q ∷ qs) root here as_a as_p keep =
+  all_stay : (d inner number : ℕ) (gs : List Hart) (ns : List ℕ) (afters : List (Option Stage)) (qs : List Owner) → ((h : ℕ) → number ≤ h → h < number + length ns → old.places h ≡ 0)
+      → ArePlaces old number ns → AreAsMany ns gs afters → AreAsMany ns gs qs → AllKeep (Acts d inner) afters
+      → AllChange (core_source core setting) image plan blocks plan blocks (later t) (numbered number gs) ns ns afters (all_at (Acts d inner) afters) qs qs
+  all_stay d inner number [] [] [] [] root here as_a as_p keep = tt
+  all_stay d inner number (h ∷ gs) (n ∷ ns) (a ∷ afters) (q ∷ qs) root here as_a as_p keep =
       let e : n ≡ 0 = here.0 ∙ root number (omega arith) (omega arith) in
       let lock : plan.in_lockstep n ≡ true = ap (λ b. b || is_lockstep (trees.kind old n)) (eq-eqb n 0 e) in
       let m : Member = record { number = number; hart = h } in (
-        subst (λ c. Changes (core_source core setting) image plan blocks plan blocks (later t) m n n c (Acts d) q q) (sym keep.0) (refl, refl, refl, tt, λ free. absurd (false≢true (sym free ∙ lock))),
-        all_stay d (suc number) gs ns afters qs (λ k le lt. root k (omega (arith, le)) (omega (arith, lt))) here.1 as_a as_p keep.1,
+        subst (λ c. Changes (core_source core setting) image plan blocks plan blocks (later t) m n n c (Acts d inner) q q) (sym keep.0) (refl, refl, refl, tt, λ free. absurd (false≢true (sym free ∙ lock))),
+        all_stay d inner (suc number) gs ns afters qs (λ k le lt. root k (omega (arith, le)) (omega (arith, lt))) here.1 as_a as_p keep.1,
       )
-  all_stay d number gs ns afters qs root here as_a as_p keep = absurd (assumption (as_a, as_p))
+  all_stay d inner number gs ns afters qs root here as_a as_p keep = absurd (assumption (as_a, as_p))
 
   -- behind a cycle: they are one cycle nearer to their commit, or all have committed
   pub record Nearer (ds : List Doing) (afters : List (Option Stage)) (control : Memory) : Type 0 where
@@ -105,20 +105,20 @@ module _ (core : List CoreOp) (image : Image) (places : Places) (nestings : Nest
     all_owners : of_node 0 nodes ps ≡ ps
     all_owners = of_all old 0 nodes hs ps in_root before.stand before.as_many
 
-    nearer_by : (d : ℕ) → AllKeep (Acts d) left.afters → ds ≡ map idle ps → Nearer ds left.afters control
-    nearer_by d keep e =
-        let change : TreeChanges (core_source core setting) image plan blocks plan blocks t hs left.afters (all_at (Acts d) left.afters) ps ps control
+    nearer_by : (d inner : ℕ) → AllKeep (Acts d inner) left.afters → ds ≡ map idle ps → Nearer ds left.afters control
+    nearer_by d inner keep e =
+        let change : TreeChanges (core_source core setting) image plan blocks plan blocks t hs left.afters (all_at (Acts d inner) left.afters) ps ps control
         = record {
           as_many = before.as_many;
-          stages_as_many = keep_many (Acts d) nodes hs left.afters left.as_many;
-          harts = all_stay d 0 hs nodes left.afters ps in_root before.stand left.as_many before.as_many keep;
+          stages_as_many = keep_many (Acts d inner) nodes hs left.afters left.as_many;
+          harts = all_stay d inner 0 hs nodes left.afters ps in_root before.stand left.as_many before.as_many keep;
           groups = λ g lock.
               inl
               (record {
                 grouped = lock;
                 busy = λ gone.
                     let here = subst AllHaveCommitted all_afters (subst (λ k. AllHaveCommitted (of_node k nodes left.afters)) (only_root g lock) gone) in
-                    let none = keep_none (Acts d) left.afters keep here in
+                    let none = keep_none (Acts d inner) left.afters keep here in
                     let long = (many_length nodes hs left.afters left.as_many).1 in
                     let many = before.many in
                     let some = before.sound.some in
@@ -129,20 +129,20 @@ module _ (core : List CoreOp) (image : Image) (places : Places) (nestings : Nest
               });
           meetings = λ g w free is_open. inl (record { alone = free; was = is_open; size = refl; same = λ number. refl });
         } in
-        let on = plan_goes_on (core_source core setting) image plan blocks plan blocks t stages (all_at (Acts d) left.afters) earlier hs ps ps ds own own' control few binds left has change in
-        record { stages' = all_at (Acts d) left.afters; are = kept_at (Acts d) left.afters keep; idle_all = e; bound = on.bound; near = on.near }
+        let on = plan_goes_on (core_source core setting) image plan blocks plan blocks t stages (all_at (Acts d inner) left.afters) earlier hs ps ps ds own own' control few binds left has change in
+        record { stages' = all_at (Acts d inner) left.afters; are = kept_at (Acts d inner) left.afters keep; idle_all = e; bound = on.bound; near = on.near }
 
     pub nearer : Nearer ds left.afters control ⊎ AllHaveCommitted left.afters
     nearer =
         ⊎_elim (λ x. inr (subst AllHaveCommitted all_afters x.0))
-        (λ x. inl (nearer_by x.0 (subst (AllKeep (Acts x.0)) all_afters x.1) (sym all_doings ∙ x.2 ∙ ap (map idle) all_owners))) (left.nodes 0)
+        (λ x. inl (nearer_by x.0 x.1 (subst (AllKeep (Acts x.0 x.1)) all_afters x.2) (sym all_doings ∙ x.3 ∙ ap (map idle) all_owners))) (left.nodes 0)
 
 -- none of them unites with others
-nobody_acts : (core : List CoreOp) (image : Image) (setting : Setting) (plan : Plan) (blocks : Blocks Owner Doing) (d : ℕ) (stages : List Stage) (ms : List Member) (ps : List Owner)
-    → AllAct (core_source core setting) image plan blocks d stages ms ps → NobodyUnites stages
-nobody_acts core image setting plan blocks d [] [] [] all = tt
-nobody_acts core image setting plan blocks d (s ∷ stages) (m ∷ ms) (p ∷ ps) all = (ap unites_now all.0, nobody_acts core image setting plan blocks d stages ms ps all.1)
-nobody_acts core image setting plan blocks d stages ms ps all = absurd (assumption all)
+nobody_acts : (core : List CoreOp) (image : Image) (setting : Setting) (plan : Plan) (blocks : Blocks Owner Doing) (d inner : ℕ) (stages : List Stage) (ms : List Member) (ps : List Owner)
+    → AllAct (core_source core setting) image plan blocks d inner stages ms ps → NobodyUnites stages
+nobody_acts core image setting plan blocks d inner [] [] [] all = tt
+nobody_acts core image setting plan blocks d inner (s ∷ stages) (m ∷ ms) (p ∷ ps) all = (ap unites_now all.0, nobody_acts core image setting plan blocks d inner stages ms ps all.1)
+nobody_acts core image setting plan blocks d inner stages ms ps all = absurd (assumption all)
 
 all_act_apart : (core : List CoreOp) (image : Image) (places : Places) (nestings : Nestings) (setting : Setting) (old : Tree) (spaces : ℕ → Space) (nodes : List ℕ) (t : MachineSetting) (stages : List Stage)
     (hs : List Hart) (ps : List Owner) (before : IsBeforeStart image setting old spaces nodes t hs ps) (own : ℕ → Memory)
@@ -155,7 +155,7 @@ all_act_apart core image places nestings setting old spaces nodes t stages hs ps
     let group : InLockstep (core_source core setting) image plan (blocks_of core image places nestings setting plan (first_of spaces)) t 0 (of_node 0 nodes stages) (of_node 0 nodes (numbered 0 hs))
     (of_node 0 nodes ps) (own 0) = binds.binds 0 in
     subst NobodyUnites all
-    (nobody_acts core image setting plan (blocks_of core image places nestings setting plan (first_of spaces)) group.distance (of_node 0 nodes stages) (of_node 0 nodes (numbered 0 hs)) (of_node 0 nodes ps)
+    (nobody_acts core image setting plan (blocks_of core image places nestings setting plan (first_of spaces)) group.distance group.inner (of_node 0 nodes stages) (of_node 0 nodes (numbered 0 hs)) (of_node 0 nodes ps)
     group.alike)
 
 pub cycles_come_to_start : CyclesComeToStart

@@ -18,7 +18,7 @@ use Rattle.fk_machine.specs.Hart.{Hart, Shared, Setting as MachineSetting}
 use Rattle.fk_machine.specs.Cycle.{turns, turns_of, setting_of, unprinted, after_turns, cycle}
 use Rattle.fk_sim_nodes.specs.Source.{AllPass, FaultsAfter}
 use Rattle.fk_sim_nodes.specs.Whole.{planned, IsCut}
-use Rattle.fk_sim_match.specs.Stage.{Stage, counts_for}
+use Rattle.fk_sim_match.specs.Stage.{Stage, counts_for, AllDoOne}
 use Rattle.fk_sim_heap.specs.Count.{asked_word}
 use Rattle.fk_sim_block.specs.Owner.{Commons, Owner, Doing, core_source}
 use Rattle.fk_sim_block.specs.Stands.{Places}
@@ -30,7 +30,7 @@ use Rattle.fk_sim_match.proofs.Joining.{nobody_or_somebody}
 use Rattle.fk_sim_match.proofs.Nodes.{own_apart}
 use Rattle.fk_sim_match.proofs.Meeters.{unowned_words_stay}
 use Rattle.fk_sim_rounds.specs.Next.{JumpsLead}
-use Rattle.fk_sim_rounds.specs.After.{actings, tree_after, AllKeep}
+use Rattle.fk_sim_rounds.specs.After.{actings, runners_of, tree_after, AllKeep}
 use Rattle.fk_sim_rounds.specs.Rounds.{EndsGroup}
 use Rattle.fk_sim_rounds.specs.Rest.{HasNoGroup}
 use Rattle.fk_sim_rounds.proofs.Trees.{all_keep}
@@ -44,7 +44,8 @@ use Rattle.fk_sim_rounds.specs.Beside.{AreInOrder, IsBeside}
 use Rattle.fk_sim_rounds.specs.Follow.{IsFollowed}
 use Rattle.fk_sim_rounds.specs.Union.{IsUnited}
 use Rattle.fk_sim_rounds.specs.RestInRuns.{HaveOneHeader, IsReadyForGroup, OpeningsAreReady, CyclesStayReady, StartsStayReady}
-use Rattle.fk_sim_rounds.proofs.Results.{is_after, is_fault}
+use Rattle.fk_sim_rounds.proofs.Results.{due_do_one, is_after, is_fault}
+use Rattle.fk_sim_rounds.proofs.StartsInRuns.{near_do_one}
 use Rattle.fk_sim_rounds.proofs.Follow.{idle_keep}
 
 pub openings_are_ready : OpeningsAreReady
@@ -82,14 +83,14 @@ still_at_rest first before after same rest = record {
 -- ---- a possible round is no cut
 
 module _ (core : List CoreOp) (image : Image) (setting : Setting) (spaces : ℕ → Space) (stages : List Stage) (s : State Position) (ps : List Owner) (shared : Commons) (leads : JumpsLead core)
-    (order : AreInOrder 0 s.runners) (beside : IsBeside core setting s ps shared) (possible : is_possible (next core) setting (counts_for stages) s ≡ true) where
+    (order : AreInOrder 0 s.runners) (beside : IsBeside core setting s ps shared) (ones : AllDoOne stages) (possible : is_possible (next core) setting (counts_for stages) s ≡ true) where
   no_fault : (f : Option Fault) (site : Fault) → is_none f ≡ true → f ≡ Some site → ⊥
   no_fault f site none e = false≢true (sym (ap (λ x. is_none x) e) ∙ none)
 
   no_cut : (words : ℕ → ℕ → Bool) (earlier : List ℕ) (hs : List Hart) (t : MachineSetting) (sh : Shared) → planned image hs ≡ counts_for stages
       → IsCut (core_source core setting) image words earlier 0 hs ps shared (turns t 0 hs sh) → ⊥
   no_cut words earlier hs t sh e c =
-      let fault = is_fault core setting s ps shared leads order beside stages c.place c.site c.store
+      let fault = is_fault core setting s ps shared leads order beside stages c.place c.site c.store ones
       (subst (λ x. FaultsAfter (core_source core setting) c.place c.site x ps shared c.store) e c.faults) in
       let after = result (next core) setting (counts_for stages) s in
       no_fault after.fault (record { site = c.site; processor = c.place })
@@ -111,15 +112,19 @@ module _ (core : List CoreOp) (image : Image) (places : Places) (nestings : Nest
       → IsAtRest first control_after
   start_is_ready few f none ready =
       let cycle = cycles_come_to_start core image places nestings setting s.tree spaces nodes t printed stages hs f.ps (λ g. sh.control) sh f.shared f.before few f.shows (λ g i own. refl) f.bound in
+      let ones = near_do_one stages f.near in
       let going : (turns t 0 hs sh).stop ≡ None
       = ⊎_elim (λ r. r.whole.going)
-      (λ c. absurd (no_cut core image setting spaces stages s f.ps f.shared leads f.order f.beside possible (plan_of s.tree spaces nodes).words printed hs t sh cycle.0 c)) cycle.1 in
+      (λ c. absurd (no_cut core image setting spaces stages s f.ps f.shared leads f.order f.beside ones possible (plan_of s.tree spaces nodes).words printed hs t sh cycle.0 c)) cycle.1 in
       still_at_rest first sh.control control_after
       (λ i lt. unowned_words_stay core image places nestings setting (united (plan_of s.tree spaces nodes)) (first_of spaces) t printed stages hs f.ps (λ g. sh.control) sh f.shared i
       (own_apart s.tree spaces f.before.spaced) f.shows (λ g j own. refl) f.bound going (not_owned s.tree spaces first i header none lt) (not_asked s.tree spaces first i header lt))
       (ready none)
 
   module _ (f : IsFollowed core image places nestings setting spaces s nodes t printed stages hs sh) where
+    ones : AllDoOne stages
+    ones = due_do_one core s.tree spaces 0 stages (runners_of f.ps) f.before.due
+
     -- without a group before it nobody comes to the words
     none_comes : (turns t 0 hs sh).stop ≡ None → IsReadyForGroup s.tree first sh.control → IsReadyForGroup s.tree first control_after
     none_comes going ready none =
@@ -136,7 +141,7 @@ module _ (core : List CoreOp) (image : Image) (places : Places) (nestings : Nest
           (λ g i own. refl) f.bound some in
           let x = cycle.1 in
           let whole = x.whole in
-          let after = is_after core setting s f.ps f.shared leads f.order f.beside stages whole.did whole.store
+          let after = is_after core setting s f.ps f.shared leads f.order f.beside stages whole.did whole.store ones
           (subst (λ c. AllPass (core_source core setting) c f.ps f.shared whole.did whole.store) cycle.0 whole.parts) in
           let stays : tree_after s.tree whole.did ≡ s.tree = all_keep (actings whole.did) s.tree whole.did s.tree (subst AllKeep (sym x.idle) (idle_keep f.ps)) in
           none_comes whole.going ready (subst HasNoGroup (after.tree ∙ stays) none)
@@ -152,7 +157,7 @@ module _ (core : List CoreOp) (image : Image) (places : Places) (nestings : Nest
           (λ r.
           let whole = r.whole in
           let parts = subst (λ c. AllPass (core_source core setting) c f.ps f.shared whole.did whole.store) cycle.0 whole.parts in
-          let after = is_after core setting s f.ps f.shared leads f.order f.beside stages whole.did whole.store parts in
+          let after = is_after core setting s f.ps f.shared leads f.order f.beside stages whole.did whole.store ones parts in
           ⊎_elim
           (λ ends.
           let kind = ends.round.known ends.group o.End ends.ends in
@@ -165,7 +170,7 @@ module _ (core : List CoreOp) (image : Image) (places : Places) (nestings : Nest
           f.before.stand f.before.many r.left whole.has (ends.round.known ends.group o.End ends.ends) ends.round.steps ends.ends))
           (λ before. none_comes whole.going ready (before (subst HasNoGroup after.tree none)))
           (keeps whole.did whole.store parts))
-          (λ c. absurd (no_cut core image setting spaces stages s f.ps f.shared leads f.order f.beside possible (plan_of s.tree spaces nodes).words printed hs t sh cycle.0 c)) cycle.1
+          (λ c. absurd (no_cut core image setting spaces stages s f.ps f.shared leads f.order f.beside ones possible (plan_of s.tree spaces nodes).words printed hs t sh cycle.0 c)) cycle.1
 
 pub cycles_stay_ready : CyclesStayReady
 cycles_stay_ready core image places nestings cycles firsts main setting spaces s nodes printed stages m first the_law leads few running with possible header keeps ready =

@@ -10,7 +10,9 @@ use Rattle.fk_meaning.specs.Round.{Runner, Fault, State, Round, cut, Acting, Pha
 use Rattle.fk_core.specs.declared.op.CoreOp.{CoreOp}
 use Rattle.fk_core.specs.Next.{Position, next}
 use Rattle.fk_sim_nodes.specs.Source.{AllPass, FaultsAfter}
-use Rattle.fk_sim_match.specs.Stage.{Stage, count_for, distance, counts_for}
+use Rattle.fk_sim_match.specs.Stage.{Stage, Ended, Acts, Meets, count_for, operations_of, distance, counts_for, AllDoOne}
+use Rattle.fk_space.specs.Space.{Space}
+use Rattle.fk_sim_match.specs.Rounds.{IsDueAt, AllDue}
 use Rattle.fk_sim_heap.specs.Shows.{ShowsTop, number_full}
 use Rattle.fk_sim_heap.proofs.Rounds.{number_is}
 use Rattle.fk_sim_block.specs.Owner.{Commons, commons_of, Owner, Doing, core_source}
@@ -23,14 +25,26 @@ use Rattle.fk_sim_rounds.proofs.Landed.{results_land}
 
 -- ---- lists of processors
 
-one_unit : (d : Option ℕ) → rounds.IsUnit (count_for d)
-one_unit None = tt
-one_unit (Some zero) = tt
-one_unit (Some (suc d)) = tt
+one_unit : (n : ℕ) (d : Option ℕ) → n ≡ 1 → rounds.IsUnit (count_for n d)
+one_unit n None one = tt
+one_unit n (Some zero) one = subst rounds.IsUnit (sym one) tt
+one_unit n (Some (suc d)) one = tt
 
-pub counts_are_units : (stages : List Stage) → rounds.AreUnits (counts_for stages)
-counts_are_units [] = tt
-counts_are_units (s ∷ stages) = (one_unit (distance s), counts_are_units stages)
+pub counts_are_units : (stages : List Stage) → AllDoOne stages → rounds.AreUnits (counts_for stages)
+counts_are_units [] ones = tt
+counts_are_units (s ∷ stages) ones = (one_unit (operations_of s) (distance s) ones.0, counts_are_units stages ones.1)
+
+-- who is about to do what its stage tells does one operation
+does_one : (core : List CoreOp) (tree : Tree) (spaces : ℕ → Space) (g : ℕ) (s : Stage) (r : Runner Position) → IsDueAt core tree spaces g s r → operations_of s ≡ 1
+does_one core tree spaces g Ended r due = refl
+does_one core tree spaces g (Acts d inner) r due = ap suc due.single
+does_one core tree spaces g (Meets e w f) r due = refl
+
+pub due_do_one : (core : List CoreOp) (tree : Tree) (spaces : ℕ → Space) (number : ℕ) (stages : List Stage) (rs : List (Runner Position)) → AllDue core tree spaces number stages rs → AllDoOne stages
+due_do_one core tree spaces number [] [] due = tt
+due_do_one core tree spaces number (s ∷ stages) (r ∷ rs) due =
+    (does_one core tree spaces (tree.places number) s r due.1, due_do_one core tree spaces (suc number) stages rs due.2)
+due_do_one core tree spaces number stages rs due = absurd (assumption due)
 
 pub actings_same : (ds : List Doing) → rounds.actings ds ≡ actings ds
 actings_same [] = refl
@@ -79,12 +93,12 @@ module _ (core : List CoreOp) where
 
   -- each does its part of the round
   pub all_passed : (setting : Setting) (stages : List Stage) (s : State Position) (ps : List Owner) (did : List Doing) (shared shared' : Commons) → AreInOrder 0 s.runners → IsBeside core setting s ps shared
-      → AllPass (core_source core setting) (counts_for stages) ps shared did shared' → rounds.Passed core setting 0 (counts_for stages) (map (landed_runner core) s.runners) s.store 0 did shared'
-  all_passed setting stages s ps did shared shared' order beside all =
+      → AllDoOne stages → AllPass (core_source core setting) (counts_for stages) ps shared did shared' → rounds.Passed core setting 0 (counts_for stages) (map (landed_runner core) s.runners) s.store 0 did shared'
+  all_passed setting stages s ps did shared shared' order beside ones all =
       let round = counts_for stages in
       let runners = map (landed_runner core) s.runners in
       let are = owners_are 0 s.store.heaps ps s.runners order beside.runners beside.heaps in
-      rounds.passed core setting 0 round (notes_of ps) runners s.store shared.asked 0 did shared' (counts_are_units stages) (in_order 0 s.runners order)
+      rounds.passed core setting 0 round (notes_of ps) runners s.store shared.asked 0 did shared' (counts_are_units stages ones) (in_order 0 s.runners order)
       (many_notes ps runners beside.runners) (begins setting) (few_notes ps beside.few) (subst (ShowsTop (heap_start (setting.globals + setting.inputs)) s.store.top shared.asked) (sym (number_is (notes_of ps))) beside.top)
       (subst (λ c. AllPass (core_source core setting) round (rounds.owners s.store.heaps (notes_of ps) runners) c did shared') (sym beside.commons)
       (subst (λ l. AllPass (core_source core setting) round l shared did shared') are all))
@@ -117,13 +131,13 @@ module _ (core : List CoreOp) (setting : Setting) (s : State Position) (ps : Lis
   abbrev phase_of : Phases Position → State Position
   phase_of r = tree_phase s.tree r.store r.acting r.fault
 
-  pub is_after : (stages : List Stage) (did : List Doing) (shared' : Commons) → AllPass (core_source core setting) (counts_for stages) ps shared did shared'
+  pub is_after : (stages : List Stage) (did : List Doing) (shared' : Commons) → AllDoOne stages → AllPass (core_source core setting) (counts_for stages) ps shared did shared'
       → IsAfter core setting stages s did shared'
-  is_after stages did shared' all =
+  is_after stages did shared' ones all =
       let round = counts_for stages in
       let acting = actings did in
       let new = tree_after s.tree did in
-      let p = all_passed core setting stages s ps did shared shared' order beside all in
+      let p = all_passed core setting stages s ps did shared shared' order beside ones all in
       let served : requests_of round ≡ record { store = p.store; acting = acting; fault = None }
       = p.all ∙ ap (λ l. let r : Phases Position = record { store = p.store; acting = l; fault = None } in r) (actings_same did) in
       let left : State Position = record { store = p.store; tree = new; runners = settled acting s.tree new acting; fault = None } in
@@ -145,13 +159,13 @@ module _ (core : List CoreOp) (setting : Setting) (s : State Position) (ps : Lis
         };
       }
 
-  pub is_fault : (stages : List Stage) (place site : ℕ) (shared' : Commons) → FaultsAfter (core_source core setting) place site (counts_for stages) ps shared shared'
+  pub is_fault : (stages : List Stage) (place site : ℕ) (shared' : Commons) → AllDoOne stages → FaultsAfter (core_source core setting) place site (counts_for stages) ps shared shared'
       → IsFault core setting stages s place site shared'
-  is_fault stages place site shared' all =
+  is_fault stages place site shared' ones all =
       let round = counts_for stages in
       let here = subst (λ c. FaultsAfter (core_source core setting) place site round (rounds.owners s.store.heaps (notes_of ps) landing.runners) c shared') (sym beside.commons)
       (subst (λ l. FaultsAfter (core_source core setting) place site round l shared shared') are all) in
-      let units = counts_are_units stages in
+      let units = counts_are_units stages ones in
       let numbered = in_order core 0 s.runners order in
       let few = few_notes core ps beside.few in
       let shows = subst (ShowsTop (heap_start (setting.globals + setting.inputs)) s.store.top shared.asked) (sym (number_is (notes_of ps))) beside.top in
@@ -182,7 +196,8 @@ module _ (core : List CoreOp) (setting : Setting) (s : State Position) (ps : Lis
           sym (ap (λ u. u.fault) (same round)) ∙ phase_fault (requests_of round) f (e ∙ ap (λ k. let x : Fault = record { site = site; processor = k } in Some x) zero_is)
 
 pub cycles_are_results : CyclesAreResults
-cycles_are_results core setting stages s ps did shared shared' leads order beside all = is_after core setting s ps shared leads order beside stages did shared' all
+cycles_are_results core setting stages s ps did shared shared' leads order beside ones all = is_after core setting s ps shared leads order beside stages did shared' ones all
 
 pub cuts_are_faults : CutsAreFaults
-cuts_are_faults core setting stages s ps place site shared shared' leads order beside all = is_fault core setting s ps shared leads order beside stages place site shared' all
+cuts_are_faults core setting stages s ps place site shared shared' leads order beside ones all =
+    is_fault core setting s ps shared leads order beside stages place site shared' ones all

@@ -503,7 +503,7 @@ module _ (core : List CoreOp) (image : Image) (places : Places) (nestings : Nest
         → StandsAt (core_source core setting) image plan' blocks' (later t) ((trees.begin count old).places m.number) stage m (becomes d)
     due : IsDueAt core (trees.begin count old) spaces ((trees.begin count old).places m.number) stage (becomes d).runner
     soon : IsSoon stage
-    alike : plan'.in_lockstep ((trees.begin count old).places m.number) ≡ true → stage ≡ Acts near.distance
+    alike : plan'.in_lockstep ((trees.begin count old).places m.number) ≡ true → stage ≡ Acts near.distance 0
 
   -- one who waits in the root runs its body with all others
   runs_root : (h : ℕ) → h < setting.processors → runs_of plan' (first_of spaces 0) h ≡ Some setting.processors
@@ -522,10 +522,11 @@ module _ (core : List CoreOp) (image : Image) (places : Places) (nestings : Nest
       let lock = ap (λ k. plan'.in_lockstep k) place ∙ group_locks (subst (λ k. is_some (new.nodes k) ≡ true) place (there_is m.number lt)) in
       let q = becomes d in
       record {
-        stage = Acts near.distance;
+        stage = Acts near.distance 0;
         fresh = tt;
         stands = λ off. absurd (false≢true (sym off ∙ lock));
         due = record {
+          single = refl;
           step = step_at core q.runner.left.at has_next.op has_next.operation q.runner.left.callers;
           next_is = next_here core q.runner.left.at has_next.op has_next.operation q.runner.left.callers has_next.stands;
           joint = λ off. absurd (false≢true (sym off ∙ lock));
@@ -560,10 +561,10 @@ module _ (core : List CoreOp) (image : Image) (places : Places) (nestings : Nest
     due : AllDue core (trees.begin count old) spaces number stages' (runners_of (all_become xs))
     soon : AllSoon afters stages'
     alike : plan'.in_lockstep old.given ≡ true
-        → AllAct (core_source core setting) image plan' blocks' near.distance (of_node old.given ns' stages') (of_node old.given ns' (numbered number gs)) (of_node old.given ns' (all_become xs))
+        → AllAct (core_source core setting) image plan' blocks' near.distance 0 (of_node old.given ns' stages') (of_node old.given ns' (numbered number gs)) (of_node old.given ns' (all_become xs))
 
-  act_first : (b : Bool) (s : Stage) (ss : List Stage) (m : Member) (ms : List Member) (p : Owner) (qs : List Owner) → (b ≡ true → s ≡ Acts near.distance)
-      → AllAct (core_source core setting) image plan' blocks' near.distance ss ms qs → AllAct (core_source core setting) image plan' blocks' near.distance (add b s ss) (add b m ms) (add b p qs)
+  act_first : (b : Bool) (s : Stage) (ss : List Stage) (m : Member) (ms : List Member) (p : Owner) (qs : List Owner) → (b ≡ true → s ≡ Acts near.distance 0)
+      → AllAct (core_source core setting) image plan' blocks' near.distance 0 ss ms qs → AllAct (core_source core setting) image plan' blocks' near.distance 0 (add b s ss) (add b m ms) (add b p qs)
   act_first true s ss m ms p qs is all = (is refl, all)
   act_first false s ss m ms p qs is all = all
 
@@ -679,7 +680,7 @@ module _ (core : List CoreOp) (image : Image) (places : Places) (nestings : Nest
         let e = only_group g lock in
         let lock' = ap (λ k. plan'.in_lockstep k) (sym e) ∙ lock in
         let here : InLockstep (core_source core setting) image plan' blocks' (later t) old.given (of_node old.given nodes' everybody.stages') (of_node old.given nodes' (numbered 0 hs))
-        (of_node old.given nodes' (all_become ds)) control = record { distance = near.distance; alike = everybody.alike lock'; together = near.at lock' } in
+        (of_node old.given nodes' (all_become ds)) control = record { distance = near.distance; inner = 0; alike = everybody.alike lock'; together = near.at lock' } in
         inr
         (subst
         (λ k. InLockstep (core_source core setting) image plan' blocks' (later t) k (of_node k nodes' everybody.stages') (of_node k nodes' (numbered 0 hs)) (of_node k nodes' (all_become ds)) control)

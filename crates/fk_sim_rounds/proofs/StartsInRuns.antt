@@ -16,7 +16,7 @@ use Rattle.fk_machine.specs.Cycle.{turns, unprinted}
 use Rattle.fk_sim_nodes.specs.Node.{Member, numbered, of_node, AreAsMany}
 use Rattle.fk_sim_nodes.specs.Source.{AllPass, Passes, Shows}
 use Rattle.fk_sim_nodes.specs.Alone.{later}
-use Rattle.fk_sim_match.specs.Stage.{Stage, Ended, Acts, Meets, IsOver, Pairwise, Remains, count_of_stage, counts_for, kept}
+use Rattle.fk_sim_match.specs.Stage.{Stage, Ended, Acts, Meets, IsOver, Pairwise, Remains, count_of_stage, counts_for, AllDoOne, kept}
 use Rattle.fk_sim_match.specs.Plan.{Plan, Blocks, AllAct, InLockstep, IsBound}
 use Rattle.fk_sim_match.specs.Cycle.{AllHaveCommitted}
 use Rattle.fk_sim_match.proofs.Left.{first_alike, second_alike, both_alike}
@@ -58,15 +58,22 @@ takes_begin core setting i op s p = refl
 
 module _ (core : List CoreOp) (image : Image) (setting : Setting) (plan : Plan) (blocks : Blocks Owner Doing) (i : ℕ) (op : CoreOp) (stands : OpAt core i op Begin) where
   -- all have committed
-  now : (d : ℕ) (stages : List Stage) (ms : List Member) (ps : List Owner) (afters : List (Option Stage)) → (length ps ≡ 0 → ⊥) → AllAct (core_source core setting) image plan blocks d stages ms ps
+  now : (d : ℕ) (stages : List Stage) (ms : List Member) (ps : List Owner) (afters : List (Option Stage)) → (length ps ≡ 0 → ⊥) → AllAct (core_source core setting) image plan blocks d 0 stages ms ps
       → Pairwise Remains stages afters → AllHaveCommitted afters → d ≡ 0
   now d [] [] [] afters some all remains gone = absurd (some refl)
   now d (s ∷ stages) (m ∷ ms) (p ∷ ps) (None ∷ afters) some all remains gone = let over : Some d ≡ Some 0 = subst IsOver all.0 remains.0 in cc
   now d (s ∷ stages) (m ∷ ms) (p ∷ ps) (Some a ∷ afters) some all remains gone = absurd (let e = gone.0 in cc)
   now d stages ms ps afters some all remains gone = absurd (assumption (all, remains))
 
+  -- each commits one operation
+  singles : (d inner : ℕ) (stages : List Stage) (ms : List Member) (ps : List Owner) → (length ps ≡ 0 → ⊥) → AllAct (core_source core setting) image plan blocks d inner stages ms ps
+      → AreNearBegin stages → inner ≡ 0
+  singles d inner [] [] [] some all near = absurd (some refl)
+  singles d inner (s ∷ stages) (m ∷ ms) (p ∷ ps) some all near = (subst IsNearBegin all.0 near.0).1
+  singles d inner stages ms ps some all near = absurd (assumption all)
+
   -- so each has begun it
-  begun : (stages : List Stage) (ms : List Member) (ps : List Owner) (s s' : Commons) (ds : List Doing) → AllAct (core_source core setting) image plan blocks 0 stages ms ps → AllAbout i op Begin ps
+  begun : (stages : List Stage) (ms : List Member) (ps : List Owner) (s s' : Commons) (ds : List Doing) → AllAct (core_source core setting) image plan blocks 0 0 stages ms ps → AllAbout i op Begin ps
       → AllPass (core_source core setting) (counts_for stages) ps s ds s' → ds ≡ map (is_due core i op Begin) ps
   begun [] [] [] s s' [] all about pass = refl
   begun (x ∷ stages) (m ∷ ms) (p ∷ ps) s s' (d ∷ ds) all about pass =
@@ -78,12 +85,21 @@ module _ (core : List CoreOp) (image : Image) (setting : Setting) (plan : Plan) 
       ap (λ y. y ∷ ds) does ∙ ap (λ l. is_due core i op Begin p ∷ l) (begun stages ms ps pass.0 s' ds all.1 about.2 pass.2)
   begun stages ms ps s s' ds all about pass = absurd (assumption (all, pass))
 
+-- all commit one operation
+pub near_do_one : (stages : List Stage) → AreNearBegin stages → AllDoOne stages
+near_do_one [] near = tt
+near_do_one (Acts d inner ∷ stages) near = (ap suc near.0.1, near_do_one stages near.1)
+near_do_one (Ended ∷ stages) near = absurd near.0
+near_do_one (Meets e w f ∷ stages) near = absurd near.0
+
 -- who does not commit stays near its commit
 stays_near : (s s' : Stage) → Remains s (Some s') → IsNearBegin s → IsNearBegin s'
-stays_near (Acts zero) s' remains near = absurd (let over = remains.3 in cc)
-stays_near (Acts (suc d)) (Acts e) remains near = let same : e ≡ d = let nearer = remains.1 in cc in omega (arith, same, near)
-stays_near (Acts (suc d)) Ended remains near = absurd remains.2
-stays_near (Acts (suc d)) (Meets e w f) remains near = absurd remains.2
+stays_near (Acts zero inner) s' remains near = absurd (let over = remains.3 in cc)
+stays_near (Acts (suc d) inner) (Acts e inner') remains near =
+    let same : e ≡ d = let nearer = remains.1 in cc in
+    let few = near.0 in (omega (arith, same, few), remains.2 ∙ near.1)
+stays_near (Acts (suc d) inner) Ended remains near = absurd remains.2
+stays_near (Acts (suc d) inner) (Meets e w f) remains near = absurd remains.2
 stays_near Ended s' remains near = absurd near
 stays_near (Meets e w f) s' remains near = absurd near
 
@@ -116,20 +132,25 @@ module _ (core : List CoreOp) (image : Image) (places : Places) (nestings : Nest
   abbrev pub distance : ℕ
   distance = group.distance
 
-  pub all_act : AllAct (core_source core setting) image plan blocks distance stages (numbered 0 hs) f.ps
-  all_act =
-      let source = core_source core setting in
-      subst (λ l. AllAct source image plan blocks distance l (numbered 0 hs) f.ps) (of_all s.tree 0 nodes hs stages root f.before.stand f.bound.stages_as_many)
-      (subst (λ l. AllAct source image plan blocks distance (of_node 0 nodes stages) l f.ps)
-      (of_all s.tree 0 nodes hs (numbered 0 hs) root f.before.stand (many_numbered 0 nodes hs f.ps f.before.as_many))
-      (subst (λ l. AllAct source image plan blocks distance (of_node 0 nodes stages) (of_node 0 nodes (numbered 0 hs)) l) (of_all s.tree 0 nodes hs f.ps root f.before.stand f.before.as_many)
-      group.alike))
-
   many : length f.ps ≡ setting.processors
   many = let long = (many_length nodes hs f.ps f.before.as_many).1 in let size = f.before.many in omega (arith, long, size)
 
   some : length f.ps ≡ 0 → ⊥
   some none = let size = many in let positive = f.before.sound.some in omega (arith, none, size, positive)
+
+  all_alike : AllAct (core_source core setting) image plan blocks distance group.inner stages (numbered 0 hs) f.ps
+  all_alike =
+      let source = core_source core setting in
+      subst (λ l. AllAct source image plan blocks distance group.inner l (numbered 0 hs) f.ps) (of_all s.tree 0 nodes hs stages root f.before.stand f.bound.stages_as_many)
+      (subst (λ l. AllAct source image plan blocks distance group.inner (of_node 0 nodes stages) l f.ps)
+      (of_all s.tree 0 nodes hs (numbered 0 hs) root f.before.stand (many_numbered 0 nodes hs f.ps f.before.as_many))
+      (subst (λ l. AllAct source image plan blocks distance group.inner (of_node 0 nodes stages) (of_node 0 nodes (numbered 0 hs)) l) (of_all s.tree 0 nodes hs f.ps root f.before.stand f.before.as_many)
+      group.alike))
+
+  pub all_act : AllAct (core_source core setting) image plan blocks distance 0 stages (numbered 0 hs) f.ps
+  all_act =
+      subst (λ k. AllAct (core_source core setting) image plan blocks distance k stages (numbered 0 hs) f.ps)
+      (singles core image setting plan blocks f.i f.op f.stands distance group.inner stages (numbered 0 hs) f.ps some all_alike f.near) all_alike
 
   pub may : is_allowed (next core) setting (counts_for stages) s ≡ true
   may =
@@ -155,6 +176,7 @@ pub cycles_follow_starts : CyclesFollowStarts
 cycles_follow_starts core image places nestings cycles firsts main setting spaces s nodes t printed stages hs sh the_law leads few f =
     let source = core_source core setting in
     let done = turns t 0 hs sh in
+    let ones = near_do_one stages f.near in
     let is_may = may core image places nestings setting spaces s nodes t printed stages hs sh leads f in
     let cycle = cycles_come_to_start core image places nestings setting s.tree spaces nodes t printed stages hs f.ps (λ g. sh.control) sh f.shared f.before few f.shows (λ g i o. refl) f.bound in
     let next_state = result (next core) setting (counts_for stages) s in (
@@ -164,7 +186,7 @@ cycles_follow_starts core image places nestings cycles firsts main setting space
           let whole = r.whole in
           let new = tree_after s.tree whole.did in
           let parts = subst (λ c. AllPass source c f.ps f.shared whole.did whole.store) cycle.0 whole.parts in
-          let after = is_after core setting s f.ps f.shared leads f.order f.beside stages whole.did whole.store parts in
+          let after = is_after core setting s f.ps f.shared leads f.order f.beside stages whole.did whole.store ones parts in
           let e : next_state.tree ≡ new = after.tree in
           let shows' : Shows source (printed ++ done.shared.output) (unprinted done.shared) whole.store = record { words = whole.shows.words; output = append-nil (printed ++ done.shared.output) ∙ whole.shows.output; common = whole.shows.common } in
           let as_many : AreAsMany nodes done.harts f.ps
@@ -179,7 +201,7 @@ cycles_follow_starts core image places nestings cycles firsts main setting space
             did = whole.did;
             tree = e;
             afters = r.left.afters;
-            makes = record { ps = f.ps; shared = f.shared; store = whole.store; order = f.order; beside = f.beside; passes = parts; stay = r.left.stay };
+            makes = record { ps = f.ps; shared = f.shared; store = whole.store; order = f.order; beside = f.beside; singles = ones; passes = parts; stay = r.left.stay };
             goes =
                 ⊎_elim
                 (λ x.
@@ -239,7 +261,7 @@ cycles_follow_starts core image places nestings cycles firsts main setting space
                       r.left.stay gone in
                       let did_is : whole.did ≡ map (is_due core f.i f.op Begin) f.ps
                       = begun core image setting plan' blocks' f.i f.op f.stands stages (numbered 0 hs) f.ps f.shared whole.store whole.did
-                      (subst (λ k. AllAct source image plan' blocks' k stages (numbered 0 hs) f.ps) zero_is all) f.about parts in
+                      (subst (λ k. AllAct source image plan' blocks' k 0 stages (numbered 0 hs) f.ps) zero_is all) f.about parts in
                       let size = many core image places nestings setting spaces s nodes t printed stages hs sh leads f in
                       let steps : StepsAt s.tree 0 0 Begin whole.did
                       = subst (λ l. StepsAt s.tree 0 0 Begin l) (sym did_is) (steps_begin core setting s.tree spaces f.i f.op f.before.sound f.before.in_root 0 f.ps (omega (arith, size)) f.homes) in
@@ -296,6 +318,6 @@ cycles_follow_starts core image places nestings cycles firsts main setting space
                 ))
                 r.goes;
           }))
-          (λ c. inr (cut_follows core image places nestings setting spaces s nodes t printed stages hs sh (plan_of s.tree spaces nodes).words f.ps f.shared leads f.order f.beside is_may cycle.0 c))
+          (λ c. inr (cut_follows core image places nestings setting spaces s nodes t printed stages hs sh (plan_of s.tree spaces nodes).words f.ps f.shared leads f.order f.beside ones is_may cycle.0 c))
           cycle.1,
     )

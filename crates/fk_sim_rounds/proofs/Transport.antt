@@ -125,7 +125,7 @@ module _ (tree : Tree) (spaces spaces' : ℕ → Space) (same : HaveSameSpaces t
 
   due_same : (core : List CoreOp) (g : ℕ) (x : Stage) (r : Runner Position) → is_some (tree.nodes g) ≡ true → IsDueAt core tree spaces g x r → IsDueAt core tree spaces' g x r
   due_same core g Ended r is due = due
-  due_same core g (Acts d) r is due = record { step = due.step; next_is = due.next_is; joint = due.joint }
+  due_same core g (Acts d inner) r is due = record { single = due.single; step = due.step; next_is = due.next_is; joint = due.joint }
   due_same core g (Meets e w f) r is due = (
     due.0,
     record {
@@ -172,18 +172,18 @@ module _ (tree : Tree) (spaces spaces' : ℕ → Space) (same : HaveSameSpaces t
 -- ---- who is bound
 
 module _ (core : List CoreOp) (image : Image) (places : Places) (nestings : Nestings) (setting : Setting) (plan : Plan) (f f' : ℕ → ℕ) (t : MachineSetting) (g : ℕ) where
-  all_act : (d : ℕ) (stages : List Stage) (ms : List Member) (ps : List Owner) → AllAct (core_source core setting) image plan (blocks_of core image places nestings setting plan f) d stages ms ps
-      → AllAct (core_source core setting) image plan (blocks_of core image places nestings setting plan f') d stages ms ps
-  all_act d [] [] [] all = tt
-  all_act d (x ∷ stages) (m ∷ ms) (p ∷ ps) all = (all.0, all_act d stages ms ps all.1)
-  all_act d stages ms ps all = absurd (assumption all)
+  all_act : (d inner : ℕ) (stages : List Stage) (ms : List Member) (ps : List Owner) → AllAct (core_source core setting) image plan (blocks_of core image places nestings setting plan f) d inner stages ms ps
+      → AllAct (core_source core setting) image plan (blocks_of core image places nestings setting plan f') d inner stages ms ps
+  all_act d inner [] [] [] all = tt
+  all_act d inner (x ∷ stages) (m ∷ ms) (p ∷ ps) all = (all.0, all_act d inner stages ms ps all.1)
+  all_act d inner stages ms ps all = absurd (assumption all)
 
   module _ (e : f g ≡ f' g) where
     stand_same : (x : Stage) (m : Member) (p : Owner) → AllStandAt (core_source core setting) image plan (blocks_of core image places nestings setting plan f) t g (x ∷ []) (m ∷ []) (p ∷ [])
         → AllStandAt (core_source core setting) image plan (blocks_of core image places nestings setting plan f') t g (x ∷ []) (m ∷ []) (p ∷ [])
     stand_same Ended m p stands = stands
-    stand_same (Acts d) m p stands =
-        subst (λ k. AllStandAt (core_source core setting) image plan (blocks_of core image places nestings setting plan (λ n. k)) t g (Acts d ∷ []) (m ∷ []) (p ∷ [])) e stands
+    stand_same (Acts d inner) m p stands =
+        subst (λ k. AllStandAt (core_source core setting) image plan (blocks_of core image places nestings setting plan (λ n. k)) t g (Acts d inner ∷ []) (m ∷ []) (p ∷ [])) e stands
     stand_same (Meets en w ph) m p stands =
         subst (λ k. AllStandAt (core_source core setting) image plan (blocks_of core image places nestings setting plan (λ n. k)) t g (Meets en w ph ∷ []) (m ∷ []) (p ∷ [])) e stands
 
@@ -197,11 +197,12 @@ module _ (core : List CoreOp) (image : Image) (places : Places) (nestings : Nest
         → Binds (core_source core setting) image plan (blocks_of core image places nestings setting plan f') b t g stages ms ps own
     binds_same true stages ms ps own x = record {
       distance = x.distance;
-      alike = all_act x.distance stages ms ps x.alike;
+      inner = x.inner;
+      alike = all_act x.distance x.inner stages ms ps x.alike;
       together =
           subst
           (λ k.
-          Together (core_source core setting) image (plan.words g) t 1 x.distance ms ps own
+          Together (core_source core setting) image (plan.words g) t (suc x.inner) x.distance ms ps own
           ((blocks_of core image places nestings setting plan (λ n. k)).AfterAll (later (in_cycles x.distance t)) g)) e x.together;
     }
     binds_same false stages ms ps own x = all_stand stages ms ps x

@@ -229,7 +229,7 @@ module _ (core : List CoreOp) (image : Image) (places : Places) (nestings : Nest
 
     by_stage : (s : Stage) → tree.places number ≡ 0 → IsDueAt core tree spaces (tree.places number) s r → Leaves 0 (phase_of word true (Some s)) → One number s
     by_stage Ended at due leaves = absurd leaves
-    by_stage (Acts d) at due leaves = absurd leaves
+    by_stage (Acts d inner) at due leaves = absurd leaves
     by_stage (Meets e v f) at due leaves = by_word e v f (v == word) refl at due leaves
 
     by_place : (s : Stage) (b : Bool) → (n == 0) ≡ b → IsDueAt core tree spaces (tree.places number) s r → Leaves 0 (phase_at b true (phase_of word true (Some s))) → One number s

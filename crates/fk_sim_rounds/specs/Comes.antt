@@ -46,7 +46,7 @@ most_to_word Unites = 211
 -- others.
 abbrev pub IsSoon : Stage → Type 0
 IsSoon Ended = Unit {0}
-IsSoon (Acts d) = d ≤ most_between
+IsSoon (Acts d inner) = d ≤ most_between
 IsSoon (Meets e w (Coming d)) = d ≤ most_to_word e
 IsSoon s = ⊥
 

@@ -15,7 +15,7 @@ use Rattle.fk_meaning.specs.Round.{Step}
 use Rattle.fk_core.specs.declared.op.CoreOp.{CoreOp}
 use Rattle.fk_core.specs.Next.{Position}
 use Rattle.fk_sim_nodes.specs.Source.{AllPass}
-use Rattle.fk_sim_match.specs.Stage.{Stage, counts_for}
+use Rattle.fk_sim_match.specs.Stage.{Stage, counts_for, AllDoOne}
 use Rattle.fk_sim_block.specs.Owner.{Commons, Owner, Doing, number_of, core_source}
 use Rattle.fk_sim_block.specs.Node.{Nestings}
 use Rattle.fk_sim_block.specs.Lockstep.{is_due}
@@ -82,7 +82,7 @@ HomesStay =
     (core : List CoreOp) (setting : Setting) (tree : Tree) (spaces : ℕ → Space)
     (stages : List Stage) (ps : List Owner) (did : List Doing) (shared shared' : Commons)
     → IsSound setting.processors tree → length did ≡ setting.processors → AllHome tree spaces 0 ps
-    → AllPass (core_source core setting) (counts_for stages) ps shared did shared'
+    → AllDoOne stages → AllPass (core_source core setting) (counts_for stages) ps shared did shared'
     → IsKnownRound tree did
     → PartsAreTold (tree_after tree did) spaces 0 did (owners_after tree (tree_after tree did) did)
     → AllHome (tree_after tree did) spaces 0 (owners_after tree (tree_after tree did) did)

@@ -5,7 +5,7 @@ use Rattle.fk_meaning.specs.Round.{State, cut, result}
 use Rattle.fk_core.specs.declared.op.CoreOp.{CoreOp}
 use Rattle.fk_core.specs.Next.{Position, next}
 use Rattle.fk_sim_nodes.specs.Source.{AllPass, FaultsAfter}
-use Rattle.fk_sim_match.specs.Stage.{Stage, Pairwise, Remains, counts_for}
+use Rattle.fk_sim_match.specs.Stage.{Stage, Pairwise, Remains, counts_for, AllDoOne}
 use Rattle.fk_sim_block.specs.Owner.{Commons, commons_of, Owner, Doing, core_source}
 use Rattle.fk_sim_rounds.specs.Next.{JumpsLead, all_landed}
 use Rattle.fk_sim_rounds.specs.After.{tree_after, owners_after}
@@ -22,14 +22,15 @@ module _ (core : List CoreOp) (setting : Setting) (stages : List Stage) (s : Sta
     pub beside : IsBeside core setting after
         (all_landed core (owners_after s.tree (tree_after s.tree did) did)) shared
 
-  -- What the round makes of the processors that match the state: they do their parts one after
-  -- another, and one that doesn't commit keeps a stage.
+  -- What the round makes of the processors that match the state: they do their parts, of one
+  -- operation at most, one after another, and one that doesn't commit keeps a stage.
   pub record Makes (did : List Doing) (afters : List (Option Stage)) : Type 0 where
     pub ps : List Owner
     pub shared : Commons
     pub store : Commons
     pub order : AreInOrder 0 s.runners
     pub beside : IsBeside core setting s ps shared
+    pub singles : AllDoOne stages
     pub passes : AllPass (core_source core setting) (counts_for stages) ps shared did store
     pub stay : Pairwise Remains stages afters
 
@@ -47,7 +48,7 @@ CyclesAreResults =
     (core : List CoreOp) (setting : Setting) (stages : List Stage) (s : State Position)
     (ps : List Owner) (did : List Doing) (shared shared' : Commons)
     → JumpsLead core → AreInOrder 0 s.runners → IsBeside core setting s ps shared
-    → AllPass (core_source core setting) (counts_for stages) ps shared did shared'
+    → AllDoOne stages → AllPass (core_source core setting) (counts_for stages) ps shared did shared'
     → IsAfter core setting stages s did shared'
 
 abbrev pub CutsAreFaults : Type 0
@@ -55,5 +56,6 @@ CutsAreFaults =
     (core : List CoreOp) (setting : Setting) (stages : List Stage) (s : State Position)
     (ps : List Owner) (place site : ℕ) (shared shared' : Commons)
     → JumpsLead core → AreInOrder 0 s.runners → IsBeside core setting s ps shared
+    → AllDoOne stages
     → FaultsAfter (core_source core setting) place site (counts_for stages) ps shared shared'
     → IsFault core setting stages s place site shared'

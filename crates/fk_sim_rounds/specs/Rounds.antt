@@ -79,7 +79,7 @@ StepIsKnown tree g Shrink =
 StepIsKnown tree g operation = ⊥
 
 -- A known round: at each node nobody changes the tree, or all who stand there do one known step.
--- The members of a group that divides make as many parts.
+-- The members of a group that divides make equally many parts.
 pub record IsKnownRound (tree : Tree) (ds : List Doing) : Type 0 where
   pub does : ℕ → Option Operation
   pub steps : StepsBy tree does 0 (actings ds)

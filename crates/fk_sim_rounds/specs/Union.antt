@@ -30,9 +30,10 @@ abbrev pub AllLandAt : List CoreOp → (i : ℕ) → List (Runner Position) → 
 AllLandAt core i [] = Unit {0}
 AllLandAt core i (r ∷ rs) = (landing core r.left.at ≡ i) × AllLandAt core i rs
 
--- A hart is to commit within the number of cycles between leaving and the common commit.
+-- A hart is to commit one operation within the number of cycles between leaving and the common
+-- commit.
 abbrev pub IsNearBegin : Stage → Type 0
-IsNearBegin (Acts d) = d < most_united
+IsNearBegin (Acts d inner) = (d < most_united) × (inner ≡ 0)
 IsNearBegin s = ⊥
 
 abbrev pub AreNearBegin : List Stage → Type 0

@@ -11,7 +11,7 @@ use Rattle.fk_image.specs.declared.Image.{Image}
 use Rattle.fk_machine.specs.declared.stand.Stand.TheVariants.{Running, Finished, Faulted}
 use Rattle.fk_machine.specs.Cycle.{Machine, turns_of, is_running, after_turns, cycle}
 use Rattle.fk_machine.specs.Run.{machine, output_of, round_of, rounds}
-use Rattle.fk_sim_match.specs.Stage.{counts_for}
+use Rattle.fk_sim_match.specs.Stage.{counts_for, AllDoOne}
 use Rattle.fk_sim_rounds.specs.Comes.{most_between}
 use Rattle.fk_sim_runs.specs.Pace.{Sight, Turns, ActsWithin, AreWaiting}
 use Rattle.fk_sim_runs.proofs.Pace.{paces_go_on, paces_are_kept}
@@ -57,6 +57,7 @@ module _ (core : List CoreOp) (setting : Setting) where
     -- its cycle is a possible round. Where that keeps the schedule lawful, the machine stands beside the state behind it
     pub record IsWhole (schedule : Schedule) (printed : List ℕ) (m : Machine) (x : Stands (run (next core) setting schedule first) printed m) : Type 0 where
       pub round : round_of image m ≡ counts_for (sight (run (next core) setting schedule first) printed m x).stages
+      pub singles : AllDoOne (sight (run (next core) setting schedule first) printed m x).stages
       pub possible : is_possible (next core) setting (counts_for (sight (run (next core) setting schedule first) printed m x).stages) (run (next core) setting schedule first) ≡ true
       pub further : IsLawful (next core) setting (schedule ++ counts_for (sight (run (next core) setting schedule first) printed m x).stages ∷ []) first
           → (y : Stands (result (next core) setting (counts_for (sight (run (next core) setting schedule first) printed m x).stages) (run (next core) setting schedule first))
@@ -99,7 +100,7 @@ module _ (core : List CoreOp) (setting : Setting) where
           let pace = paces_are_kept core setting first schedule v round g.pace g.waiting in
           let lawful : IsLawful (next core) setting (schedule ++ round ∷ []) first = record { possible = all_are (next core) setting (schedule ++ round ∷ []) first possible; pace = pace } in
           let y = w.further lawful in
-          let single = single_then schedule round g.single (counts_single v.stages) in
+          let single = single_then schedule round g.single (counts_single v.stages w.singles) in
           let moved : (y : Stands (run (next core) setting (schedule ++ round ∷ []) first) printed' (cycle m)) × Turns v (sight (run (next core) setting (schedule ++ round ∷ []) first) printed' (cycle m) y)
           = subst (λ z. (y : Stands z printed' (cycle m)) × Turns v (sight z printed' (cycle m) y)) (sym (run-append (next core) setting schedule (round ∷ []) first)) y in
           let v' = sight (run (next core) setting (schedule ++ round ∷ []) first) printed' (cycle m) moved.0 in

@@ -15,7 +15,7 @@ use Rattle.fk_meaning.specs.Round.{Runner, State, Round, Phases, Acting, lowest,
 use Rattle.fk_core.specs.declared.op.CoreOp.{CoreOp}
 use Rattle.fk_core.specs.Next.{Position, position, landing, next}
 use Rattle.fk_sim_nodes.specs.Source.{AllPass}
-use Rattle.fk_sim_match.specs.Stage.{Stage, distance, count_for, counts_for}
+use Rattle.fk_sim_match.specs.Stage.{Stage, distance, operations_of, count_for, counts_for, AllDoOne}
 use Rattle.fk_lockstep.specs.OneProgram.{AreTogether, HaveOneProgram}
 use Rattle.fk_lockstep.proofs.Round.{first_is}
 use Rattle.fk_lockstep_nodes.specs.Steps.{KeepsOrDoes, StepsBy, only, stepping}
@@ -37,15 +37,15 @@ use Rattle.fk_sim_runs.specs.Facts.{BeginsGroup, ReachedRoundsAreKnown}
 
 -- ---- counts of machines
 
-count_single : (d : Option ℕ) → count_for d ≤ 1
-count_single None = omega arith
-count_single (Some zero) = omega arith
-count_single (Some (suc d)) = omega arith
+count_single : (n : ℕ) (d : Option ℕ) → n ≡ 1 → count_for n d ≤ 1
+count_single n None one = omega arith
+count_single n (Some zero) one = omega (arith, one)
+count_single n (Some (suc d)) one = omega arith
 
-pub counts_single : (stages : List Stage) → IsSingle (counts_for stages)
-counts_single [] h = omega arith
-counts_single (s ∷ stages) zero = count_single (distance s)
-counts_single (s ∷ stages) (suc h) = counts_single stages h
+pub counts_single : (stages : List Stage) → AllDoOne stages → IsSingle (counts_for stages)
+counts_single [] ones h = omega arith
+counts_single (s ∷ stages) ones zero = count_single (operations_of s) (distance s) ones.0
+counts_single (s ∷ stages) ones (suc h) = counts_single stages ones.1 h
 
 -- ---- those who step, as machines have them
 
@@ -178,30 +178,30 @@ module _ (core : List CoreOp) (leads : JumpsLead core) (setting : Setting) (s : 
 
 -- they are those who stand before the steps of the tree
 pub steppers : (core : List CoreOp) (setting : Setting) (stages : List Stage) (s : State Position) (ps : List Owner) (did : List Doing) (shared shared' : Commons) → AreInOrder 0 s.runners → IsBeside core setting s ps shared
-    → AllPass (core_source core setting) (counts_for stages) ps shared did shared' → stepping (next core) setting (counts_for stages) (landed_state core s) ≡ actings did
-steppers core setting stages s ps did shared shared' order beside all =
-    let p = all_passed core setting stages s ps did shared shared' order beside all in
+    → AllDoOne stages → AllPass (core_source core setting) (counts_for stages) ps shared did shared' → stepping (next core) setting (counts_for stages) (landed_state core s) ≡ actings did
+steppers core setting stages s ps did shared shared' order beside ones all =
+    let p = all_passed core setting stages s ps did shared shared' order beside ones all in
     ap (λ (x : Phases Position). x.acting) p.all ∙ actings_same did
 
 -- there are as many as the state has processors
 pub actings_many : (core : List CoreOp) (leads : JumpsLead core) (setting : Setting) (stages : List Stage) (s : State Position) (ps : List Owner) (did : List Doing) (shared shared' : Commons)
-    → AreInOrder 0 s.runners → IsBeside core setting s ps shared → is_possible (next core) setting (counts_for stages) s ≡ true → AllPass (core_source core setting) (counts_for stages) ps shared did shared'
-    → length (actings did) ≡ length s.runners
-actings_many core leads setting stages s ps did shared shared' order beside possible all =
-    ap (λ l. length l) (sym (steppers core setting stages s ps did shared shared' order beside all))
-    ∙ stepping_length (next core) setting (counts_for stages) (landed_state core s) (counts_single stages) (possible_landed core leads setting s (counts_for stages) possible)
+    → AreInOrder 0 s.runners → IsBeside core setting s ps shared → AllDoOne stages → is_possible (next core) setting (counts_for stages) s ≡ true
+    → AllPass (core_source core setting) (counts_for stages) ps shared did shared' → length (actings did) ≡ length s.runners
+actings_many core leads setting stages s ps did shared shared' order beside ones possible all =
+    ap (λ l. length l) (sym (steppers core setting stages s ps did shared shared' order beside ones all))
+    ∙ stepping_length (next core) setting (counts_for stages) (landed_state core s) (counts_single stages ones) (possible_landed core leads setting s (counts_for stages) possible)
     ∙ length-map s.runners (landed_runner core)
 
 pub reached_rounds_are_known : ReachedRoundsAreKnown
-reached_rounds_are_known core nestings main setting stages s ps did shared shared' list is order beside possible all =
+reached_rounds_are_known core nestings main setting stages s ps did shared shared' list is order beside ones possible all =
     let round = counts_for stages in
     let known = rounds_are_known Position (next core) setting round (landed_state core s) (record {
       sound = is.stands.sound;
       one_program = one_program core list.jumps setting s is.stands.one_program;
       tree = in_tree core list.jumps setting s is.stands.tree;
-      single = counts_single stages;
+      single = counts_single stages ones;
       possible = possible_landed core list.jumps setting s round possible;
     }) in
-    let same = steppers core setting stages s ps did shared shared' order beside all in
-    let many = actings_many core list.jumps setting stages s ps did shared shared' order beside possible all ∙ is.stands.tree.many in
+    let same = steppers core setting stages s ps did shared shared' order beside ones all in
+    let many = actings_many core list.jumps setting stages s ps did shared shared' order beside ones possible all ∙ is.stands.tree.many in
     known_so setting.processors s.tree is.stands.sound did many (subst (λ l. AreKnown s.tree l) same known)

@@ -85,7 +85,7 @@ idle_at t false f member idle = idle_absent t member
 
 fresh_idle : (u : MachineSetting) (w : ℕ) (member : Bool) (s : Stage) → IsFresh u s → IsIdle u.finished (phase_of w member (Some s))
 fresh_idle u w member Ended fresh = idle_absent u.finished member
-fresh_idle u w member (Acts d) fresh = idle_absent u.finished member
+fresh_idle u w member (Acts d inner) fresh = idle_absent u.finished member
 fresh_idle u w member (Meets e v (Coming d)) fresh = idle_at u.finished (v == w) (Coming d) member fresh
 fresh_idle u w member (Meets e v Outside) fresh = absurd fresh
 fresh_idle u w member (Meets e v Away) fresh = absurd fresh
@@ -217,7 +217,7 @@ module _ (core : List CoreOp) (image : Image) (places : Places) (nestings : Nest
 
   stands_fine : (number : ℕ) (s : Stage) → StandsAt (core_source core setting) image plan blocks t 0 s (at_first number) (opener number) → Fine plan number s
   stands_fine number Ended stands = tt
-  stands_fine number (Acts d) stands = tt
+  stands_fine number (Acts d inner) stands = tt
   stands_fine number (Meets e v f) stands = (stands.0, stands.2)
 
   opens : (number count : ℕ) → number + count ≤ p → Opens number count

@@ -14,7 +14,7 @@ use Rattle.fk_lockstep_tree.specs.Ranges.{range_of, ranges_of}
 use Rattle.fk_lockstep_tree.specs.Rounds.{IsRound}
 use Rattle.fk_lockstep_tree.proofs.Paths.{root_first, node_range}
 use Rattle.fk_lockstep_tree.proofs.Ranges.{read_root, ranges_stay}
-use Rattle.fk_sim_match.specs.Stage.{Stage, counts_for}
+use Rattle.fk_sim_match.specs.Stage.{Stage, counts_for, AllDoOne}
 use Rattle.fk_sim_match.proofs.Rounds.{not_none}
 use Rattle.fk_sim_block.specs.Node.{Nestings}
 use Rattle.fk_sim_rounds.specs.Next.{HasRange}
@@ -55,20 +55,20 @@ own_space core nestings setting s h r is at = All-head IsSpace r.has.level.space
 
 -- a possible round of such a state
 pub is_round : (core : List CoreOp) (nestings : Nestings) (setting : Setting) (stages : List Stage) (s : State Position) → IsReached core nestings setting s
-    → is_possible (next core) setting (counts_for stages) s ≡ true → IsRound (next core) setting (counts_for stages) s
-is_round core nestings setting stages s is possible = record {
+    → AllDoOne stages → is_possible (next core) setting (counts_for stages) s ≡ true → IsRound (next core) setting (counts_for stages) s
+is_round core nestings setting stages s is ones possible = record {
   sound = is.stands.sound;
   one_program = is.stands.one_program;
   tree = is.stands.tree;
-  single = counts_single stages;
+  single = counts_single stages ones;
   possible = possible;
 }
 
 pub reached_ranges_stay : ReachedRangesStay
-reached_ranges_stay core nestings main setting stages s g list is is' possible lt there =
+reached_ranges_stay core nestings main setting stages s g list is is' ones possible lt there =
     ranges_stay Position (next core) setting (counts_for stages) s g
     (record {
-      base = is_round core nestings setting stages s is possible;
+      base = is_round core nestings setting stages s is ones possible;
       one_space = is.stands.one_space.members;
       spaces = λ h r at. own_space core nestings setting s h r is at;
       behind = is'.stands.sound;
@@ -77,15 +77,15 @@ reached_ranges_stay core nestings main setting stages s g list is is' possible l
 
 pub over_behind : (core : List CoreOp) (nestings : Nestings) (main : ℕ) (setting : Setting) (stages : List Stage) (s : State Position)
     → let behind = result (next core) setting (counts_for stages) s in
-    IsOfTree core nestings main → IsReached core nestings setting s → IsReached core nestings setting behind → is_possible (next core) setting (counts_for stages) s ≡ true
-    → HaveSameSpaces behind.tree (ranges_over setting s behind) (ranges_of behind)
-over_behind core nestings main setting stages s list is is' possible g some =
+    IsOfTree core nestings main → IsReached core nestings setting s → IsReached core nestings setting behind → AllDoOne stages
+    → is_possible (next core) setting (counts_for stages) s ≡ true → HaveSameSpaces behind.tree (ranges_over setting s behind) (ranges_of behind)
+over_behind core nestings main setting stages s list is is' ones possible g some =
     let behind = result (next core) setting (counts_for stages) s in
     let new = if is_some (behind.tree.nodes g) then ranges_of behind g else range_of (group_space setting) in
     ⊎_elim
     (λ lt.
     cond-true (nat_lt g s.tree.given) (ranges_of s g) new (lt-ltb g s.tree.given lt)
-    ∙ sym (reached_ranges_stay core nestings main setting stages s g list is is' possible lt (not_none (behind.tree.nodes g) some)))
+    ∙ sym (reached_ranges_stay core nestings main setting stages s g list is is' ones possible lt (not_none (behind.tree.nodes g) some)))
     (λ ge.
     cond-false (nat_lt g s.tree.given) (ranges_of s g) new (le-ltb g s.tree.given ge)
     ∙ cond-true (is_some (behind.tree.nodes g)) (ranges_of behind g) (range_of (group_space setting)) some)

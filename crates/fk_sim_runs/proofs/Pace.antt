@@ -45,7 +45,7 @@ among v h e g w f x = meets_get v.plan g w (kept v.stages) h e f x.here (kept_ge
 
 -- ---- one cycle: one that is to commit does so, or has a cycle less to go
 
-commits_now : (v : Sight) (h : ℕ) (s : Stage) → slice_get v.stages h ≡ Some s → distance s ≡ Some 0 → slice_index (counts_for v.stages) h ≡ 1
+commits_now : (v : Sight) (h : ℕ) (s : Stage) → slice_get v.stages h ≡ Some s → distance s ≡ Some 0 → 0 < slice_index (counts_for v.stages) h
 commits_now v h s at is = who_is_near_acts (λ i. v.stages) h 0 0 s at is (λ i lt. absurd (omega (arith, lt)))
 
 record Sooner (v' : Sight) (h cycles : ℕ) : Type 0 where
@@ -71,7 +71,7 @@ phases_length plan g w number (n ∷ ns) (s ∷ stages) = let le = phases_length
 
 module _ (v v' : Sight) (turns : Turns v v') (h : ℕ) where
   abbrev Result : ℕ → Type 0
-  Result cycles = (slice_index (counts_for v.stages) h ≡ 1) ⊎ Sooner v' h cycles
+  Result cycles = (0 < slice_index (counts_for v.stages) h) ⊎ Sooner v' h cycles
 
   by_distance : (cycles : ℕ) (s : Stage) → slice_get v.stages h ≡ Some s → (left : ℕ) → distance s ≡ Some left → left ≤ cycles → Result cycles
   by_distance cycles s at zero is le = inl (commits_now v h s at is)
@@ -119,7 +119,7 @@ module _ (v v' : Sight) (turns : Turns v v') (h : ℕ) where
   unites cycles w steps at le =
       let u = turns.unite h w at in
       let few = u.few in
-      inr (sooner v' h cycles u.left (omega (arith, le, few)) (λ left le'. inl (record { stage = Acts u.left; at = u.at; left = u.left; is = refl; in_time = le' })))
+      inr (sooner v' h cycles u.left (omega (arith, le, few)) (λ left le'. inl (record { stage = Acts u.left u.inner; at = u.at; left = u.left; is = refl; in_time = le' })))
 
   by_meeting : (cycles : ℕ) (e : Ending) (g w : ℕ) (f : Phase) → StandsAtWord v h e g w f → (steps : ℕ) → IsDue lead steps v.finished (phases v.plan g w (kept v.stages))
       → steps + behind_leaving e ≤ cycles → Result cycles

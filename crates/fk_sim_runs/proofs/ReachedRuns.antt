@@ -18,12 +18,12 @@ single_then [] round single one = (one, tt)
 single_then (r ∷ schedule) round single one = (single.0, single_then schedule round single.1 one)
 
 pub runs_reach_rounds : RunsReach → RunsReachRounds
-runs_reach_rounds runs_reach core nestings main list words firsts input p schedule stages some given are_possible single possible =
+runs_reach_rounds runs_reach core nestings main list words firsts input p schedule stages some given are_possible single ones possible =
     let setting = setting_of p words input in
     let first = list_opening main words firsts input p in
     let round = counts_for stages in
     let s = run (next core) setting schedule first in
-    let one = counts_single stages in
+    let one = counts_single stages ones in
     let last : run (next core) setting (schedule ++ round ∷ []) first ≡ result (next core) setting round s = run-append (next core) setting schedule (round ∷ []) first in
     let none : (run (next core) setting (schedule ++ round ∷ []) first).fault ≡ None
     = ap (λ (u : State Position). u.fault) last ∙ ap (λ (u : State Position). u.fault) (result_is (next core) setting round s one possible) in

@@ -41,7 +41,7 @@ module _ (core : List CoreOp) (tree : Tree) (spaces : ℕ → Space) where
   -- a stage that is over is that of one who had something left to do
   over_next : (g : ℕ) (x : Stage) (r : Runner Position) → IsOver x → IsDueAt core tree spaces g x r → next core r.left ≢ None
   over_next g Ended r over due none = let clash : ◌≡◌ {A = Option ℕ} None (Some 0) = over in cc
-  over_next g (Acts d) r over due none = let clash : None ≡ Some due.step = sym none ∙ due.next_is in cc
+  over_next g (Acts d inner) r over due none = let clash : None ≡ Some due.step = sym none ∙ due.next_is in cc
   over_next g (Meets e w f) r over due none = let clash : None ≡ Some due.1.step = sym none ∙ due.1.next_is in cc
 
   remained_next : (g : ℕ) (x : Stage) (a : Option Stage) (r : Runner Position) → Remains x a → IsDueAt core tree spaces g x r → a ≡ None → next core r.left ≢ None
@@ -74,7 +74,7 @@ module _ (core : List CoreOp) (tree : Tree) (spaces : ℕ → Space) where
   begins_none : (g : ℕ) (x : Stage) (r : Runner Position) (step : Step Position) → count_of_stage x ≡ 1 → IsDueAt core tree spaces g x r → is_lockstep (trees.kind tree g) ≡ false
       → next core r.left ≡ Some step → step.operation ≡ o.Begin → ⊥
   begins_none g Ended r step one due free e begins = let both : 0 ≡ 1 = one in omega (arith, both)
-  begins_none g (Acts d) r step one due free e begins =
+  begins_none g (Acts d inner) r step one due free e begins =
       let same : due.step ≡ step = first_is due.step step (sym due.next_is ∙ e) in
       begins_alone due.step.operation (ap (λ (x : Step Position). x.operation) same ∙ begins) (due.joint free)
   begins_none g (Meets Commits w f) r step one due free e begins =
@@ -139,7 +139,7 @@ module _ (core : List CoreOp) (nestings : Nestings) (main : ℕ) (setting : Sett
   known : IsKnownRound s.tree did
   known =
       ⊎_elim (λ is. is) (λ begins. absurd (no_group begins))
-      (reached_rounds_are_known core nestings main setting stages s round.ps did round.shared round.shared' list reached.before round.order round.beside round.possible round.passes)
+      (reached_rounds_are_known core nestings main setting stages s round.ps did round.shared round.shared' list reached.before round.order round.beside round.singles round.possible round.passes)
 
 pub reached_stages_go_on : ReachedStagesGoOn
 reached_stages_go_on core nestings main setting s stages afters did spaces list limit reached round due stay = (

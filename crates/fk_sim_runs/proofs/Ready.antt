@@ -20,10 +20,13 @@ use Rattle.fk_lockstep_tree.proofs.Acts.{result_is}
 use Rattle.fk_lockstep_tree.proofs.Stepped as trees
 use Rattle.fk_sim_block.specs.Owner.{Doing}
 use Rattle.fk_sim_block.specs.Node.{Nestings, IsAtRest}
-use Rattle.fk_sim_match.specs.Stage.{Stage, counts_for}
+use Rattle.fk_sim_match.specs.Stage.{Stage, counts_for, AllDoOne}
 use Rattle.fk_sim_match.specs.Nodes.{first_of}
+use Rattle.fk_sim_rounds.specs.After.{runners_of}
 use Rattle.fk_sim_match.proofs.Rounds.{not_none}
 use Rattle.fk_sim_rounds.specs.Rest.{HasNoGroup}
+use Rattle.fk_sim_rounds.proofs.Results.{due_do_one}
+use Rattle.fk_sim_rounds.proofs.StartsInRuns.{near_do_one}
 use Rattle.fk_sim_rounds.proofs.Rest.{known_rounds_keep_groups}
 use Rattle.fk_sim_rounds.specs.RestInRuns.{HaveOneHeader}
 use Rattle.fk_sim_rounds.proofs.RestInRuns.{cycles_stay_ready, starts_stay_ready}
@@ -82,7 +85,7 @@ module _ (core : List CoreOp) (nestings : Nestings) (setting : Setting) (s : Sta
   }
 
   -- the next group has all of the group space: it is in the root, where there is no other one
-  module _ (is' : IsReached core nestings setting behind) (possible : is_possible (next core) setting round s ≡ true) (none : HasNoGroup s.tree) where
+  module _ (is' : IsReached core nestings setting behind) (ones : AllDoOne stages) (possible : is_possible (next core) setting round s ≡ true) (none : HasNoGroup s.tree) where
     abbrev g : ℕ
     g = s.tree.given
 
@@ -91,8 +94,8 @@ module _ (core : List CoreOp) (nestings : Nestings) (setting : Setting) (s : Sta
         let ne = given_some setting.processors s.tree is.stands.sound in
         let up = parent behind.tree g in
         let lives = awaits-some behind.tree up g (is'.stands.sound.awaited g ne there) in
-        let it = is_round core nestings setting stages s is possible in
-        let same : behind.tree ≡ trees.new (next core) setting round s it = ap (λ (u : State Position). u.tree) (result_is (next core) setting round s (counts_single stages) possible) in
+        let it = is_round core nestings setting stages s is ones possible in
+        let same : behind.tree ≡ trees.new (next core) setting round s it = ap (λ (u : State Position). u.tree) (result_is (next core) setting round s (counts_single stages ones) possible) in
         let was = trees.was_there (next core) setting round s it up (is'.stands.tree.upward g ne there) (subst (λ (t : Tree). t.nodes up ≢ None) same lives) in
         ⊎_elim (λ zero_is. zero_is) (λ ne'. absurd (was (none up ne'))) (cases_eq up 0)
 
@@ -112,14 +115,15 @@ pub reached_cycles_stay_ready : ReachedCyclesStayReady
 reached_cycles_stay_ready core image places nestings cycles firsts main setting s nodes printed stages m the_law list is small few running with possible ready =
     let f = with.followed in
     let spaces' = ranges_over setting s (result (next core) setting (counts_for stages) s) in
+    let ones = due_do_one core s.tree spaces' 0 stages (runners_of f.ps) f.before.due in
     cycles_stay_ready core image places nestings cycles firsts main setting spaces' s nodes printed stages m (group_space setting).low the_law list.jumps few running with possible
     (one_header core nestings setting s stages is small)
     (λ did shared all.
     let many : length did ≡ setting.processors
-    = sym (length-map did (λ (d : Doing). d.acting)) ∙ actings_many core list.jumps setting stages s f.ps did f.shared shared f.order f.beside possible all ∙ is.stands.tree.many in
+    = sym (length-map did (λ (d : Doing). d.acting)) ∙ actings_many core list.jumps setting stages s f.ps did f.shared shared f.order f.beside ones possible all ∙ is.stands.tree.many in
     ⊎_elim (λ known. known_rounds_keep_groups setting.processors s.tree did is.stands.sound many known)
     (λ begins. inr (λ none. alone_there setting.processors s.tree is.stands.sound is.stands.tree.upward false begins.kind))
-    (reached_rounds_are_known core nestings main setting stages s f.ps did f.shared shared list is f.order f.beside possible all))
+    (reached_rounds_are_known core nestings main setting stages s f.ps did f.shared shared list is f.order f.beside ones possible all))
     ready
 
 pub reached_starts_find_headers : ReachedStartsFindHeaders
@@ -129,7 +133,7 @@ reached_starts_find_headers core image places nestings main setting s nodes prin
     let alone = alone_there setting.processors s.tree is.stands.sound is.stands.tree.upward before.alone before.kind in
     let rest = starts_stay_ready core image places nestings setting spaces' s nodes printed stages m (group_space setting).low list.jumps few running with possible
     (one_header core nestings setting s stages is small) alone ready in
-    let range = next_range core nestings setting s stages is small is' possible alone in
+    let range = next_range core nestings setting s stages is small is' (near_do_one stages with.followed.near) possible alone in
     let first : first_of spaces' s.tree.given ≡ (group_space setting).low
     = first_at spaces' s.tree.given (given_some setting.processors s.tree is.stands.sound) ∙ ap (λ (x : Space). x.low) range in (
       record {

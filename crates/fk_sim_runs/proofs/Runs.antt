@@ -20,7 +20,7 @@ use Rattle.fk_machine.specs.declared.stand.Stand.TheVariants.{Running, Finished,
 use Rattle.fk_machine.specs.Cycle.{Machine, turns_of, all_ended, unprinted, is_running, stand_after, after_turns, cycle}
 use Rattle.fk_machine.specs.Cycle as machines
 use Rattle.fk_machine.specs.Run.{machine, output_of, round_of, rounds}
-use Rattle.fk_sim_match.specs.Stage.{Stage, counts_for}
+use Rattle.fk_sim_match.specs.Stage.{Stage, counts_for, AllDoOne}
 use Rattle.fk_sim_match.specs.Plan.{Plan}
 use Rattle.fk_sim_match.specs.Cycle.{AllHaveCommitted}
 use Rattle.fk_sim_nodes.specs.Node.{AreAsMany}
@@ -43,7 +43,8 @@ use Rattle.fk_sim_rounds.specs.Transport.{HaveSameSpaces}
 use Rattle.fk_sim_rounds.proofs.Transport.{plan_same, other_spaces_dont_matter, united_spaces_dont_matter}
 use Rattle.fk_sim_rounds.proofs.Landed.{next_landed}
 use Rattle.fk_sim_rounds.proofs.Follow.{cycles_follow_rounds}
-use Rattle.fk_sim_rounds.proofs.StartsInRuns.{cycles_follow_starts}
+use Rattle.fk_sim_rounds.proofs.Results.{due_do_one}
+use Rattle.fk_sim_rounds.proofs.StartsInRuns.{near_do_one, cycles_follow_starts}
 use Rattle.fk_sim_rounds.proofs.Machines.{machines_follow_rounds, machines_follow_starts}
 use Rattle.fk_sim_rounds.proofs.RestInRuns.{openings_are_ready}
 use Rattle.fk_sim_rounds.specs.Follows.{StandsAgree, Agrees}
@@ -60,6 +61,12 @@ use Rattle.fk_sim_runs.proofs.Induction.{IsGoing, IsOver, IsBroken, IsWhole, fol
 
 pub few_harts : (setting : Setting) (nodes : List ℕ) (m : Machine) (ps : List Owner) → setting.processors ≤ 1024 → AreAsMany nodes m.harts ps → length nodes ≡ setting.processors → length m.harts < 2 ^ 31
 few_harts setting nodes m ps few as_many many = let harts = (many_length nodes m.harts ps as_many).0 in omega (arith, many, harts, few)
+
+-- all harts commit one operation
+pub singles_by : (core : List CoreOp) (image : Image) (places : Places) (nestings : Nestings) (setting : Setting) (spaces : ℕ → Space) (uniting : Bool) (s : State Position) (nodes : List ℕ) (printed : List ℕ)
+    (stages : List Stage) (m : Machine) → GoesBeside core image places nestings setting spaces uniting s nodes printed stages m → AllDoOne stages
+singles_by core image places nestings setting spaces false s nodes printed stages m goes = due_do_one core s.tree spaces 0 stages (runners_of goes.followed.ps) goes.followed.before.due
+singles_by core image places nestings setting spaces true s nodes printed stages m goes = near_do_one stages goes.followed.near
 
 module _ (core : List CoreOp) (image : Image) (places : Places) (nestings : Nestings) (cycles : Cycles) (firsts : List ℕ) (main : ℕ) (setting : Setting) (spaces : ℕ → Space)
     (the_law : GroupLaw core image places nestings cycles firsts main) (leads : JumpsLead core) (few : setting.processors ≤ 1024) where
@@ -215,6 +222,7 @@ module _ (core : List CoreOp) (image : Image) (places : Places) (nestings : Nest
         let s = run (next core) setting schedule first in
         let behind = result (next core) setting (counts_for x.stages) s in
         let spaces = spaces_in_cycle core setting s x.stages in
+        let ones = singles_by core image places nestings setting (ranges_of s) x.uniting s x.nodes printed x.stages m x.beside.goes in
         let before = over_before setting s behind (sound_of core image places nestings setting (ranges_of s) x.uniting s x.nodes printed x.stages m x.beside.goes) in
         let beside = stands_same core image places nestings setting (ranges_of s) spaces x.uniting s x.nodes printed x.stages m before x.beside in
         ⊎_elim
@@ -223,10 +231,11 @@ module _ (core : List CoreOp) (image : Image) (places : Places) (nestings : Nest
         inl
         (record {
           round = round.0;
+          singles = ones;
           possible = round.1;
           further = λ lawful'.
               let y = always.further schedule x.uniting x.nodes printed x.stages m lawful single beside running g lawful' in
-              let after = always.stay schedule x.stages lawful single round.1 lawful' in
+              let after = always.stay schedule x.stages lawful single ones round.1 lawful' in
               let control' = (cycle m).shared.control in
               let begun' = (cycle m).begun in (
                 record {

@@ -12,7 +12,7 @@ use Rattle.fk_sim_runs.specs.Turning.{AreFreshInTime}
 -- who has just committed
 soon_in_time : (s : Stage) → IsSoon s → IsInTime s
 soon_in_time Ended soon = tt
-soon_in_time (Acts d) soon = soon
+soon_in_time (Acts d inner) soon = soon
 soon_in_time (Meets e w (Coming d)) soon = omega (arith, soon)
 soon_in_time (Meets e w f) soon = absurd (assumption soon)
 
@@ -27,7 +27,7 @@ all_soon_in_time afters stages soon = absurd (assumption soon)
 
 -- who is about to begin the group of `start`
 near_in_time : (s : Stage) → IsNearBegin s → IsInTime s
-near_in_time (Acts d) near = omega (arith, near)
+near_in_time (Acts d inner) near = let few = near.0 in omega (arith, few)
 near_in_time s near = absurd (assumption near)
 
 pub near_begin_in_time : (stages : List Stage) → AreNearBegin stages → AreInTime stages

@@ -56,25 +56,25 @@ meets_get plan g w afters h e f here at member =
 -- ---- in a group, and by itself
 
 module _ {S P D : Type 0} (source : Source S P D) (image : Image) (plan : Plan) (blocks : Blocks P D) (t : Setting) where
-  past_act : (d : ℕ) (b : Bool) (x : Stage) (m : Member) (q : P) (xs : List Stage) (ms : List Member) (qs : List P) → AllAct source image plan blocks d (add b x xs) (add b m ms) (add b q qs)
-      → AllAct source image plan blocks d xs ms qs
-  past_act d true x m q xs ms qs all = all.1
-  past_act d false x m q xs ms qs all = all
+  past_act : (d inner : ℕ) (b : Bool) (x : Stage) (m : Member) (q : P) (xs : List Stage) (ms : List Member) (qs : List P) → AllAct source image plan blocks d inner (add b x xs) (add b m ms) (add b q qs)
+      → AllAct source image plan blocks d inner xs ms qs
+  past_act d inner true x m q xs ms qs all = all.1
+  past_act d inner false x m q xs ms qs all = all
 
-  pub acts_there : (d g number : ℕ) (ns : List ℕ) (stages : List Stage) (hs : List Hart) (qs : List P) (h : ℕ) (x : Stage) → AreAsMany ns hs qs → AreAsMany ns hs stages
-      → AllAct source image plan blocks d (of_node g ns stages) (of_node g ns (numbered number hs)) (of_node g ns qs) → slice_get ns h ≡ Some g → slice_get stages h ≡ Some x → x ≡ Acts d
-  acts_there d g number (n ∷ ns) (y ∷ stages) (k ∷ hs) (q ∷ qs) zero x many many' all here at =
+  pub acts_there : (d inner g number : ℕ) (ns : List ℕ) (stages : List Stage) (hs : List Hart) (qs : List P) (h : ℕ) (x : Stage) → AreAsMany ns hs qs → AreAsMany ns hs stages
+      → AllAct source image plan blocks d inner (of_node g ns stages) (of_node g ns (numbered number hs)) (of_node g ns qs) → slice_get ns h ≡ Some g → slice_get stages h ≡ Some x → x ≡ Acts d inner
+  acts_there d inner g number (n ∷ ns) (y ∷ stages) (k ∷ hs) (q ∷ qs) zero x many many' all here at =
       let node : n ≡ g = cc in
       let stage : y ≡ x = cc in
       let m : Member = record { number = number; hart = k } in
       sym stage
-      ∙ (subst (λ b. AllAct source image plan blocks d (add b y (of_node g ns stages)) (add b m (of_node g ns (numbered (suc number) hs))) (add b q (of_node g ns qs))) (eq-eqb n g node) all).0
-  acts_there d g number (n ∷ ns) (y ∷ stages) (k ∷ hs) (q ∷ qs) (suc h) x many many' all here at =
+      ∙ (subst (λ b. AllAct source image plan blocks d inner (add b y (of_node g ns stages)) (add b m (of_node g ns (numbered (suc number) hs))) (add b q (of_node g ns qs))) (eq-eqb n g node) all).0
+  acts_there d inner g number (n ∷ ns) (y ∷ stages) (k ∷ hs) (q ∷ qs) (suc h) x many many' all here at =
       let m : Member = record { number = number; hart = k } in
-      acts_there d g (suc number) ns stages hs qs h x many many' (past_act d (n == g) y m q (of_node g ns stages) (of_node g ns (numbered (suc number) hs)) (of_node g ns qs) all) here at
-  acts_there d g number [] stages hs qs h x many many' all here at = absurd (cc)
-  acts_there d g number (n ∷ ns) [] hs qs h x many many' all here at = absurd (cc)
-  acts_there d g number ns stages hs qs h x many many' all here at = absurd (assumption (many, many'))
+      acts_there d inner g (suc number) ns stages hs qs h x many many' (past_act d inner (n == g) y m q (of_node g ns stages) (of_node g ns (numbered (suc number) hs)) (of_node g ns qs) all) here at
+  acts_there d inner g number [] stages hs qs h x many many' all here at = absurd (cc)
+  acts_there d inner g number (n ∷ ns) [] hs qs h x many many' all here at = absurd (cc)
+  acts_there d inner g number ns stages hs qs h x many many' all here at = absurd (assumption (many, many'))
 
   past_stand : (g : ℕ) (b : Bool) (x : Stage) (m : Member) (q : P) (xs : List Stage) (ms : List Member) (qs : List P) → AllStandAt source image plan blocks t g (add b x xs) (add b m ms) (add b q qs)
       → AllStandAt source image plan blocks t g xs ms qs
@@ -88,7 +88,7 @@ module _ {S P D : Type 0} (source : Source S P D) (image : Image) (plan : Plan) 
 
   belongs : (g : ℕ) (x : Stage) (m : Member) (q : P) → StandsAt source image plan blocks t g x m q → Belongs g m.number x
   belongs g Ended m q stands = tt
-  belongs g (Acts d) m q stands = tt
+  belongs g (Acts d inner) m q stands = tt
   belongs g (Meets e w f) m q stands = (stands.0, stands.1, stands.2)
 
   pub belongs_there : (g number : ℕ) (ns : List ℕ) (stages : List Stage) (hs : List Hart) (qs : List P) (h k : ℕ) (x : Stage) → number + h ≡ k → AreAsMany ns hs qs → AreAsMany ns hs stages
@@ -118,7 +118,7 @@ module _ {S P D : Type 0} (source : Source S P D) (image : Image) (plan : Plan) 
         (λ is.
         let group : InLockstep source image plan blocks t g (of_node g plan.nodes stages) (of_node g plan.nodes (numbered 0 hs)) (of_node g plan.nodes ps) (own g)
         = subst (λ b. Binds source image plan blocks b t g (of_node g plan.nodes stages) (of_node g plan.nodes (numbered 0 hs)) (of_node g plan.nodes ps) (own g)) is (bound.binds g) in
-        let acts = acts_there group.distance g 0 plan.nodes stages hs ps h (Meets e w f) bound.as_many bound.stages_as_many group.alike here at in
+        let acts = acts_there group.distance group.inner g 0 plan.nodes stages hs ps h (Meets e w f) bound.as_many bound.stages_as_many group.alike here at in
         absurd (cc))
         (λ no. no)
         (cases_Bool (plan.in_lockstep g))

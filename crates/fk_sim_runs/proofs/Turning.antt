@@ -82,11 +82,11 @@ over_leaving Commits w (Coming d) over = absurd (cc)
 over_leaving Commits w Waiting over = absurd (cc)
 
 -- who stays by itself is in time
-acts_in_time : (d : ℕ) (s' : Stage) → Remains (Acts d) (Some s') → IsInTime (Acts d) → IsInTime s'
-acts_in_time d Ended r few = absurd r.2
-acts_in_time d (Meets e w f) r few = absurd r.2
-acts_in_time zero (Acts d') r few = absurd (let one = r.0 in omega (arith, one))
-acts_in_time (suc d) (Acts d') r few = let near = r.1 in let e : d' ≡ d = cc in omega (arith, few, e)
+acts_in_time : (d inner : ℕ) (s' : Stage) → Remains (Acts d inner) (Some s') → IsInTime (Acts d inner) → IsInTime s'
+acts_in_time d inner Ended r few = absurd r.2
+acts_in_time d inner (Meets e w f) r few = absurd r.2
+acts_in_time zero inner (Acts d' inner') r few = absurd (let one = r.0 in omega (arith, one))
+acts_in_time (suc d) inner (Acts d' inner') r few = let near = r.1 in let e : d' ≡ d = cc in omega (arith, few, e)
 
 pub stay_length : (stages : List Stage) (afters : List (Option Stage)) → Pairwise Remains stages afters → length stages ≡ length afters
 stay_length [] [] stay = refl
@@ -156,7 +156,7 @@ module _ {S P D : Type 0} (source : Source S P D) (image : Image) (plan : Plan) 
         → (a : Option Stage) → slice_get afters h ≡ Some a → Remains (Meets e w f) a → StaysAtWord h e g w
     stays_by h e g w f here c ne None at r = absurd (ne (over_leaving e w f r))
     stays_by h e g w f here c ne (Some Ended) at r = absurd r.2
-    stays_by h e g w f here c ne (Some (Acts d)) at r = absurd r.2
+    stays_by h e g w f here c ne (Some (Acts d inner)) at r = absurd r.2
     stays_by h e g w f here c ne (Some (Meets e1 w1 f1)) at r =
         let was = c.left_at in
         let node = c.here in
@@ -221,9 +221,9 @@ module _ {S P D : Type 0} (source : Source S P D) (image : Image) (plan : Plan) 
 
     remains_in_time : (h : ℕ) (g : ℕ) (s s' : Stage) → slice_get plan.nodes h ≡ Some g → slice_get stages h ≡ Some s → slice_get stages' h ≡ Some s' → Remains s (Some s') → IsInTime s'
     remains_in_time h g Ended Ended here at at' r = tt
-    remains_in_time h g Ended (Acts d) here at at' r = absurd r.2
+    remains_in_time h g Ended (Acts d inner) here at at' r = absurd r.2
     remains_in_time h g Ended (Meets e w f) here at at' r = absurd r.2
-    remains_in_time h g (Acts d) s' here at at' r = acts_in_time d s' r (in_time_at stages h (Acts d) in_time at)
+    remains_in_time h g (Acts d inner) s' here at at' r = acts_in_time d inner s' r (in_time_at stages h (Acts d inner) in_time at)
     remains_in_time h g (Meets e w f) s' here at at' r = meets_in_time h e g w f here at (not_leaving h e w f s' at r) s' at'
 
     one_in_time : (h : ℕ) (c : Changed plan.nodes plan'.nodes afters stages' h) (s : Stage) → slice_get stages h ≡ Some s → (a : Option Stage) → slice_get afters h ≡ Some a → Remains s a

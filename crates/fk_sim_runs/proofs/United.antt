@@ -32,7 +32,7 @@ near_at (x ∷ stages) zero s all at = let same : x ≡ s = cc in subst IsNearBe
 near_at (x ∷ stages) (suc h) s all at = near_at stages h s all.1 at
 
 has_united : (v : Sight) (h : ℕ) (s : Stage) → slice_get v.stages h ≡ Some s → IsNearBegin s → HasUnited v h
-has_united v h (Acts d) at near = record { left = d; at = at; few = near }
+has_united v h (Acts d inner) at near = record { left = d; inner = inner; at = at; few = near.0 }
 has_united v h Ended at near = absurd near
 has_united v h (Meets e w f) at near = absurd near
 

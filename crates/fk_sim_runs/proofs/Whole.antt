@@ -9,7 +9,7 @@ use Rattle.fk_core.specs.Next.{Position, next}
 use Rattle.fk_lockstep_tree.specs.Runs.{AreSingle}
 use Rattle.fk_image.specs.declared.Image.{Image}
 use Rattle.fk_machine.specs.Cycle.{Machine, is_running, cycle}
-use Rattle.fk_sim_match.specs.Stage.{Stage, counts_for}
+use Rattle.fk_sim_match.specs.Stage.{Stage, counts_for, AllDoOne}
 use Rattle.fk_sim_block.specs.Stands.{Places}
 use Rattle.fk_sim_rounds.specs.Follows.{IsInput}
 use Rattle.fk_sim_block.specs.Node.{Nestings}
@@ -29,7 +29,7 @@ use Rattle.fk_sim_runs.proofs.Ready.{reached_cycles_stay_ready, reached_starts_f
 use Rattle.fk_sim_runs.specs.Pace.{AreInTime}
 use Rattle.fk_sim_runs.specs.Runs.{StandsBeside, IsRound, GoesFurther, spaces_in_cycle, AlwaysGoesFurther, places_in, IsBehind}
 use Rattle.fk_sim_runs.proofs.Turning.{stay_length}
-use Rattle.fk_sim_runs.proofs.Runs.{few_harts, stand_in, many_in, machines_follow_group_runs, orderly_rounds_go_further, unions_go_further, starts_go_further}
+use Rattle.fk_sim_runs.proofs.Runs.{few_harts, singles_by, stand_in, many_in, machines_follow_group_runs, orderly_rounds_go_further, unions_go_further, starts_go_further}
 use Rattle.fk_sim_runs.specs.Follow.{CarriesTrees, MachinesFollowTrees}
 use Rattle.fk_sim_runs.proofs.Begin.{all_begin, begins_at}
 use Rattle.fk_sim_runs.proofs.Machines as reaching
@@ -64,7 +64,7 @@ module _ (runs_reach : RunsReach) (runs_reach_rounds : RunsReachRounds) (core : 
         let f = with.followed in
         let possible = subst (λ x. is_possible (next core) setting x s ≡ true) r.round r.possible in
         let round : IsRoundOf core setting s stages r.did
-        = record { ps = r.makes.ps; shared = r.makes.shared; shared' = r.makes.store; order = r.makes.order; beside = r.makes.beside; possible = possible; passes = r.makes.passes } in
+        = record { ps = r.makes.ps; shared = r.makes.shared; shared' = r.makes.store; order = r.makes.order; beside = r.makes.beside; singles = r.makes.singles; possible = possible; passes = r.makes.passes } in
         let due = subst (AllDue core s.tree spaces 0 stages) f.beside.runners f.before.due in
         let go = reached_stages_go_on core nestings main setting s stages r.afters r.did spaces carries.tree few are round due r.makes.stay in
         let tree = (result (next core) setting (counts_for stages) s).tree in
@@ -96,7 +96,7 @@ module _ (runs_reach : RunsReach) (runs_reach_rounds : RunsReachRounds) (core : 
         let found = reached_starts_find_headers core image places nestings main setting s nodes printed stages m carries.tree are.before are.after is_input.room
         (few_harts setting nodes m f.ps few before.as_many before.many) running to possible ready in
         let round : IsRoundOf core setting s stages r.did
-        = record { ps = r.makes.ps; shared = r.makes.shared; shared' = r.makes.store; order = r.makes.order; beside = r.makes.beside; possible = possible; passes = r.makes.passes } in
+        = record { ps = r.makes.ps; shared = r.makes.shared; shared' = r.makes.store; order = r.makes.order; beside = r.makes.beside; singles = r.makes.singles; possible = possible; passes = r.makes.passes } in
         let kept = stay_length stages r.afters r.makes.stay in
         let staged = (many_length nodes m.harts stages f.bound.stages_as_many).1 in
         let many = before.many in
@@ -129,10 +129,10 @@ module _ (runs_reach : RunsReach) (runs_reach_rounds : RunsReachRounds) (core : 
 
   -- the states before and behind the last round
   both : (schedule : Schedule) (stages : List Stage) → ArePossible (next core) setting (schedule ++ counts_for stages ∷ []) first → AreSingle schedule
-      → is_possible (next core) setting (counts_for stages) (state schedule) ≡ true → AreReached core setting (state schedule) stages nestings
-  both schedule stages all single possible =
+      → AllDoOne stages → is_possible (next core) setting (counts_for stages) (state schedule) ≡ true → AreReached core setting (state schedule) stages nestings
+  both schedule stages all single ones possible =
       let are = runs_reach_rounds core nestings main carries.tree image.globals.items firsts input p schedule stages some
-      (reaching.given runs_reach core main firsts places nestings cycles image carries input p is_input some few) all single possible in
+      (reaching.given runs_reach core main firsts places nestings cycles image carries input p is_input some few) all single ones possible in
       record { before = are.0; after = are.1 }
 
   pub always : AlwaysGoesFurther core image places nestings setting first
@@ -142,12 +142,14 @@ module _ (runs_reach : RunsReach) (runs_reach_rounds : RunsReachRounds) (core : 
         (reaching.reached runs_reach core main firsts places nestings cycles image carries input p is_input some few schedule lawful.possible single none) kind at next_is;
     further = λ schedule uniting nodes printed stages m lawful single stands running r lawful'.
         let s = state schedule in
-        let possible = possible_of (spaces_in_cycle core setting s stages) uniting s nodes printed stages m r in
-        further s nodes printed stages m (both schedule stages lawful'.possible single possible) running uniting stands r;
-    stay = λ schedule stages lawful single possible lawful'.
+        let spaces = spaces_in_cycle core setting s stages in
+        let possible = possible_of spaces uniting s nodes printed stages m r in
+        let ones = singles_by core image places nestings setting spaces uniting s nodes printed stages m stands.goes in
+        further s nodes printed stages m (both schedule stages lawful'.possible single ones possible) running uniting stands r;
+    stay = λ schedule stages lawful single ones possible lawful'.
         let s = state schedule in
-        let are = both schedule stages lawful'.possible single possible in
-        over_behind core nestings main setting stages s carries.tree are.before are.after possible;
+        let are = both schedule stages lawful'.possible single ones possible in
+        over_behind core nestings main setting stages s carries.tree are.before are.after ones possible;
   }
 
 pub machines_follow_trees : RunsReach → RunsReachRounds → MachinesFollowTrees

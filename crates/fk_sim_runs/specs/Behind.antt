@@ -11,7 +11,7 @@ use Rattle.fk_core.specs.declared.op.CoreOp.{CoreOp}
 use Rattle.fk_core.specs.Next.{Position, next, list_opening}
 use Rattle.fk_lockstep_tree.specs.Runs.{AreSingle}
 use Rattle.fk_sim_nodes.specs.Source.{AllPass}
-use Rattle.fk_sim_match.specs.Stage.{Stage, counts_for, Pairwise, Remains}
+use Rattle.fk_sim_match.specs.Stage.{Stage, counts_for, AllDoOne, Pairwise, Remains}
 use Rattle.fk_sim_block.specs.Owner.{Commons, Owner, Doing, core_source}
 use Rattle.fk_sim_block.specs.Next.{OpAt}
 use Rattle.fk_sim_rounds.specs.InRange.{AreGiven}
@@ -44,14 +44,15 @@ module _ (core : List CoreOp) (setting : Setting) (s : State Position) (stages :
   abbrev pub behind : State Position
   behind = result (next core) setting (counts_for stages) s
 
-  -- A possible round of those whose stages commit, and what the processors that match the state
-  -- have done in it.
+  -- A possible round of those whose stages commit, each of one operation at most, and what the
+  -- processors that match the state have done in it.
   pub record IsRoundOf (did : List Doing) : Type 0 where
     pub ps : List Owner
     pub shared : Commons
     pub shared' : Commons
     pub order : AreInOrder 0 s.runners
     pub beside : IsBeside core setting s ps shared
+    pub singles : AllDoOne stages
     pub possible : is_possible (next core) setting (counts_for stages) s ≡ true
     pub passes : AllPass (core_source core setting) (counts_for stages) ps shared did shared'
 
@@ -110,7 +111,7 @@ RunsReachRounds =
     let s = run (next core) setting schedule first in
     1 ≤ p → AreGiven words firsts input p
     → ArePossible (next core) setting (schedule ++ counts_for stages ∷ []) first
-    → AreSingle schedule
+    → AreSingle schedule → AllDoOne stages
     → is_possible (next core) setting (counts_for stages) s ≡ true
     → IsReached core nestings setting s
     × IsReached core nestings setting (behind core setting s stages)

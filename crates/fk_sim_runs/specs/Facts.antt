@@ -15,7 +15,7 @@ use Rattle.fk_lockstep_frames.specs.Lists.{HasLocalFrames, HasToldFrames}
 use Rattle.fk_lockstep_tree.specs.Ranges.{range_of, ranges_of}
 use Rattle.fk_sim_nodes.specs.Node.{of_node}
 use Rattle.fk_sim_nodes.specs.Source.{AllPass}
-use Rattle.fk_sim_match.specs.Stage.{Stage, counts_for}
+use Rattle.fk_sim_match.specs.Stage.{Stage, counts_for, AllDoOne}
 use Rattle.fk_sim_block.specs.Owner.{Commons, Heaps, Owner, Doing, core_source}
 use Rattle.fk_sim_block.specs.Node.{Nestings}
 use Rattle.fk_sim_rounds.specs.Next.{landed, HasNext, HaveNext}
@@ -50,7 +50,7 @@ ReachedRangesStay =
     (s : State Position) (g : ℕ)
     → let behind = result (next core) setting (counts_for stages) s in
     IsOfTree core nestings main → IsReached core nestings setting s
-    → IsReached core nestings setting behind
+    → IsReached core nestings setting behind → AllDoOne stages
     → is_possible (next core) setting (counts_for stages) s ≡ true
     → g < s.tree.given → behind.tree.nodes g ≢ None
     → ranges_of behind g ≡ ranges_of s g
@@ -107,7 +107,7 @@ ReachedRoundsAreKnown =
     (core : List CoreOp) (nestings : Nestings) (main : ℕ) (setting : Setting) (stages : List Stage)
     (s : State Position) (ps : List Owner) (did : List Doing) (shared shared' : Commons)
     → IsOfTree core nestings main → IsReached core nestings setting s → AreInOrder 0 s.runners
-    → IsBeside core setting s ps shared
+    → IsBeside core setting s ps shared → AllDoOne stages
     → is_possible (next core) setting (counts_for stages) s ≡ true
     → AllPass (core_source core setting) (counts_for stages) ps shared did shared'
     → IsKnownRound s.tree did ⊎ BeginsGroup s.tree did

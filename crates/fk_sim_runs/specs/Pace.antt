@@ -25,7 +25,7 @@ behind_leaving Unites = most_united
 
 abbrev pub IsInTime : Stage → Type 0
 IsInTime Ended = Unit {0}
-IsInTime (Acts d) = d ≤ most_between
+IsInTime (Acts d inner) = d ≤ most_between
 IsInTime (Meets e w (Coming d)) = d ≤ most_to_word e
 IsInTime (Meets e w (Leaving d)) = d ≤ lead
 IsInTime (Meets e w f) = Unit {0}
@@ -62,7 +62,8 @@ pub record MovesOn (v v' : Sight) (h : ℕ) (e : Ending) (g w : ℕ) : Type 0 wh
 -- The hart has met those with whom it unites, and is near their common commit.
 pub record HasUnited (v' : Sight) (h : ℕ) : Type 0 where
   pub left : ℕ
-  pub at : slice_get v'.stages h ≡ Some (Acts left)
+  pub inner : ℕ
+  pub at : slice_get v'.stages h ≡ Some (Acts left inner)
   pub few : left < most_united
 
 -- From one view to the next each hart at a distance is one cycle nearer, and each that meets others

@@ -13,7 +13,7 @@ use Rattle.fk_core.specs.declared.op.CoreOp.{CoreOp}
 use Rattle.fk_core.specs.Next.{Position, next, list_opening}
 use Rattle.fk_image.specs.declared.Image.{Image}
 use Rattle.fk_machine.specs.Cycle.{Machine, is_running, cycle}
-use Rattle.fk_sim_match.specs.Stage.{Stage, counts_for}
+use Rattle.fk_sim_match.specs.Stage.{Stage, counts_for, AllDoOne}
 use Rattle.fk_sim_match.specs.Plan.{Plan}
 use Rattle.fk_sim_block.specs.Owner.{Doing}
 use Rattle.fk_sim_block.specs.Stands.{Places}
@@ -116,7 +116,7 @@ pub record AlwaysGoesFurther (core : List CoreOp) (image : Image) (places : Plac
   pub stay : (schedule : Schedule) (stages : List Stage)
       → let s = run (next core) setting schedule first in
       let behind = result (next core) setting (counts_for stages) s in
-      IsLawful (next core) setting schedule first → AreSingle schedule
+      IsLawful (next core) setting schedule first → AreSingle schedule → AllDoOne stages
       → is_possible (next core) setting (counts_for stages) s ≡ true
       → IsLawful (next core) setting (schedule ++ counts_for stages ∷ []) first
       → HaveSameSpaces behind.tree (spaces_in_cycle core setting s stages) (ranges_of behind)

@@ -8,7 +8,7 @@ use Rattle.fk_top.specs.declared.ending.PutFile.{PutFile}
 use Rattle.fk_top.specs.declared.report.Report.TheVariants as reports
 use Rattle.fk_top.specs.declared.status.Status.{Status}
 use Rattle.fk_top.specs.declared.status.Status.TheVariants.{ReadFault, WriteFault}
-use Rattle.fk_top_words.specs.Command.{Command, Run, Build, Exec, ListCode, Elf, Unelf, Audit, Trace, Selftest, Reads}
+use Rattle.fk_top_words.specs.Command.{Command, Run, Build, Exec, ListCode, Elf, Unelf, Audit, Trace, Selftest, Locks, Reads}
 use Rattle.fk_top.specs.Words.{IsPut}
 use Rattle.fk_top.specs.Report.{line_of}
 use Rattle.fk_top.specs.Ending.{put_of}
@@ -57,6 +57,7 @@ nothing_by words (Trace f p n) bytes text outcome reads (inr r) not = nothing_ru
 nothing_by words (Selftest k) bytes text outcome reads (inl r) not = ap (λ (o : Outcome). o.put) r.is
 nothing_by words (Selftest k) bytes text outcome reads (inr (inl r)) not = ap (λ (o : Outcome). o.put) r.is
 nothing_by words (Selftest k) bytes text outcome reads (inr (inr r)) not = nothing_run r.image [] 64 4294967295 (Prints r.shown) outcome r.ends
+nothing_by words Locks bytes text outcome reads is not = ap (λ (o : Outcome). o.put) is
 
 -- what fails to be put is there
 pub some_file : {A E : Type 0} (put : Option PutFile) (r : Result A E) (e : E) → (put ≡ None → IsOk r) → r ≡ Err e → IsSome (option_map put_of put)

@@ -14,14 +14,14 @@ use Rattle.fk_elf.specs.Files.{IsElfOf}
 use Rattle.fk_top_input.specs.declared.fault.InputFault.{InputFault}
 use Rattle.fk_top_input.specs.Input.{input_of}
 use Rattle.fk_top_words.specs.Arguments.{Text}
-use Rattle.fk_top_words.specs.Command.{Command, Run, Build, Exec, ListCode, Elf, Unelf, Audit, Trace, Selftest}
+use Rattle.fk_top_words.specs.Command.{Command, Run, Build, Exec, ListCode, Elf, Unelf, Audit, Trace, Selftest, Locks}
 use Rattle.fk_top_words.proofs.OneCommand.{one_command}
 use Rattle.fk_layout_globals.specs.Rows.{Row}
 use Rattle.fk_compile_text.specs.Text.{IsChecked, HasGlobal}
 use Rattle.fk_compile.specs.Faithful.{IsFaithful, words_by}
 use Rattle.fk_top.specs.declared.status.Status.{Status}
 use Rattle.fk_top.specs.declared.status.Status.TheVariants.{Done, Refused, Usage, ReadFault, WriteFault, Memory, SourceFault, CycleBound, Trap, ImageRefused, InputRefused, ElfRefused}
-use Rattle.fk_top.specs.Words.{TakesInput, Puts, IsPut, Origin, FirstOf, Generated, origin_of, most_input}
+use Rattle.fk_top.specs.Words.{TakesInput, Puts, IsPut, Origin, FirstOf, Generated, Nowhere, origin_of, most_input}
 use Rattle.fk_top.specs.Outcome.{Outcome, Writing, Prints, Traces, EndsOn, EndsAudit, ComesTo, RefusesSource, RefusesImage, RefusesElf, LacksGlobal, IsShown, most_numbers}
 use Rattle.fk_top.specs.Refused.{IsRefusedBy, IsNoElfAs, IsNoImageAs}
 use Rattle.fk_top.specs.Call.{Call, Request, Change, Rose, Ends, IsUnread, IsFileUnread, OriginFaults, AreRead, AreThere, IsHeld, IsInputUnread, IsCut, IsOutOfMemory, HasEnded, HasCause, IsInOrder, IsReadable, IsAccepted, IsInputBeside, IsOfStand, IsOfAccepted, IsOfUnreadable, IsOfUnaccepted, IsText, IsImage, IsElf, AreCut}
@@ -35,6 +35,7 @@ use Rattle.fk_top.proofs.Readable.{whole, same_words, variable_there, text_accep
 abbrev pub cut_to : Origin → List ℕ → List ℕ
 cut_to (FirstOf file most) bytes = take most bytes
 cut_to (Generated statements) bytes = bytes
+cut_to Nowhere bytes = bytes
 
 read-held : (known : Option Files) (name bytes read : List ℕ) (most : ℕ) → IsHeld known name bytes → AppendsFile known name most [] read → read ≡ take most bytes
 read-held known name bytes read most held appended =
@@ -44,6 +45,7 @@ read-held known name bytes read most held appended =
 read-there : (known : Option Files) (origin : Origin) (bytes read : List ℕ) → AreThere known origin bytes → AreRead known origin read → read ≡ cut_to origin bytes
 read-there known (FirstOf file most) bytes read there is = read-held known file bytes read most there is.0
 read-there known (Generated statements) bytes read there is = is ∙ sym there
+read-there known Nowhere bytes read there is = is ∙ sym there
 
 not_lacked : (known : Option Files) (name bytes : List ℕ) → IsHeld known name bytes → LacksFile known name → ⊥
 not_lacked known name bytes held lacks =
@@ -55,6 +57,7 @@ no_fault : (known : Option Files) (origin : Origin) (bytes : List ℕ) (faults :
 no_fault known (FirstOf file most) bytes faults there steady (inl rose) = steady rose
 no_fault known (FirstOf file most) bytes faults there steady (inr lacks) = not_lacked known file bytes there lacks.0
 no_fault known (Generated statements) bytes faults there steady none = none
+no_fault known Nowhere bytes faults there steady none = none
 
 not_unread : (call : Call) (command : Command) (bytes text : List ℕ) → IsInOrder call command bytes text → IsUnread call.request → ⊥
 not_unread call command bytes text order unread = go (one_command _ _ _ unread.reads order.reads) unread.cause
@@ -76,6 +79,7 @@ taken (Unelf f i) text = []
 taken (Audit f p n) text = take 1048577 text
 taken (Trace f p n) text = take 1048577 text
 taken (Selftest k) text = []
+taken Locks text = []
 
 no_bytes : (bytes : List ℕ) → length bytes ≤ 0 → bytes ≡ []
 no_bytes [] le = refl
@@ -95,6 +99,7 @@ taken_is request (Unelf f i) text got told moves = moves.appended ∙ no_bytes m
 taken_is request (Audit f p n) text got told moves = first_of_told _ _ text got 1048577 (told tt) moves
 taken_is request (Trace f p n) text got told moves = first_of_told _ _ text got 1048577 (told tt) moves
 taken_is request (Selftest k) text got told moves = moves.appended ∙ no_bytes moves.bytes moves.few
+taken_is request Locks text got told moves = moves.appended ∙ no_bytes moves.bytes moves.few
 
 -- what a command comes to over what it reads of these bytes and of the input
 abbrev pub ComesToFirst : Command → List ℕ → List ℕ → Outcome → Type 0
@@ -144,6 +149,7 @@ put_by (Trace f p n) bytes text outcome (inr r) some = no_put_run r.image text p
 put_by (Selftest k) bytes text outcome (inl r) some = nothing_put outcome _ r.is refl some
 put_by (Selftest k) bytes text outcome (inr (inl r)) some = nothing_put outcome _ r.is refl some
 put_by (Selftest k) bytes text outcome (inr (inr r)) some = no_put_run r.image [] 64 4294967295 (Prints r.shown) outcome r.ends some
+put_by Locks bytes text outcome is some = nothing_put outcome _ is refl some
 
 -- the words of a call that puts are those of one
 pub puts_by : (request : Request) (outcome : Outcome) → Ends request outcome → IsSome outcome.put → IsPut request.words
@@ -353,6 +359,7 @@ accepted_ends (Selftest k) source text outcome status is input same (inl r) = ab
 accepted_ends (Selftest k) source text outcome status is input same (inr (inl r)) = absurd (asked_there source (Some (codes "c")) is.1 r.name is.2 r.asked r.none)
 accepted_ends (Selftest k) source text outcome status is input same (inr (inr r)) =
     inr (r.image, r.compiled, accepted_alone r.image 64 4294967295 (Prints r.shown) outcome status same r.ends)
+accepted_ends Locks bytes text outcome status is input same comes = inr (status-of outcome _ status comes same)
 
 -- where what is read isn't
 unreadable_ends : (command : Command) (bytes text : List ℕ) (outcome : Outcome) (status : Status) → ¬ IsReadable command bytes → outcome.status ≡ status → ComesToFirst command bytes text outcome → IsOfUnreadable command status
@@ -377,6 +384,7 @@ unreadable_ends (Trace f p n) source text outcome status none same (inr r) = abs
 unreadable_ends (Selftest k) source text outcome status none same (inl r) = inr (status-of outcome _ status r.is same)
 unreadable_ends (Selftest k) source text outcome status none same (inr (inl r)) = inr (status-of outcome _ status r.is same)
 unreadable_ends (Selftest k) source text outcome status none same (inr (inr r)) = absurd (none (text_built source r.image r.compiled, r.shown, r.is_shown))
+unreadable_ends Locks bytes text outcome status none same comes = absurd (none tt)
 
 -- and where the input isn't
 unaccepted_ends : (command : Command) (bytes text : List ℕ) (outcome : Outcome) (status : Status) → IsReadable command bytes → ¬ IsAccepted command bytes text → outcome.status ≡ status → ComesToFirst command bytes text outcome → IsOfUnaccepted status
@@ -427,6 +435,7 @@ unaccepted_ends (Trace f p n) source text outcome status is none same (inr r) = 
         let count = globals_of source r.image faithful.program faithful.facts faithful faithful.checked in
         absurd (none (faithful.program, faithful.facts, faithful.checked, beside (vec_len r.image.globals) _ text runs.input count runs.numbers))
 unaccepted_ends (Selftest k) source text outcome status is none same comes = absurd (none tt)
+unaccepted_ends Locks bytes text outcome status is none same comes = absurd (none tt)
 
 -- want of memory is an answer in any case
 memory_accepted : (command : Command) (bytes text : List ℕ) (status : Status) → status ≡ Memory → IsOfAccepted command bytes text status
@@ -439,6 +448,7 @@ memory_accepted (Unelf f i) bytes text status is = inl is
 memory_accepted (Audit f p n) bytes text status is = inl is
 memory_accepted (Trace f p n) bytes text status is = inl is
 memory_accepted (Selftest k) bytes text status is = inl is
+memory_accepted Locks bytes text status is = inl is
 
 memory_unreadable : (command : Command) (status : Status) → status ≡ Memory → IsOfUnreadable command status
 memory_unreadable (Run f p n s) status is = inl is
@@ -450,6 +460,7 @@ memory_unreadable (Unelf f i) status is = inl is
 memory_unreadable (Audit f p n) status is = inl is
 memory_unreadable (Trace f p n) status is = inl is
 memory_unreadable (Selftest k) status is = inl is
+memory_unreadable Locks status is = is
 
 -- ---- the answers to what is in order, and to what isn't
 

@@ -10,7 +10,7 @@ use Rattle.fk_compile.specs.Faithful.{IsFaithful}
 use Rattle.fk_compile.specs.Laws.{IsUntrapped}
 use Rattle.fk_compile.proofs.Untrapped.{never_traps}
 use Rattle.fk_top_words.specs.Arguments.{Text}
-use Rattle.fk_top_words.specs.Command.{Command, Run, Build, Exec, ListCode, Elf, Unelf, Audit, Trace, Selftest, Reads, ReadsRun}
+use Rattle.fk_top_words.specs.Command.{Command, Run, Build, Exec, ListCode, Elf, Unelf, Audit, Trace, Selftest, Locks, Reads, ReadsRun}
 use Rattle.fk_top.specs.declared.status.Status.{Status}
 use Rattle.fk_top.specs.declared.status.Status.TheVariants.{Done, Refused, SourceFault, CycleBound, Trap, ImageRefused, InputRefused, ElfRefused}
 use Rattle.fk_top.specs.Words.{Runs, IsRun, TakesInput, HasInput, IsExec}
@@ -147,6 +147,7 @@ outcome_is_of words (Selftest k) bytes text outcome reads (inr (inl r)) = is_of 
 outcome_is_of words (Selftest k) bytes text outcome reads (inr (inr r)) =
     of_source bytes [] r.image (Selftest k) 64 4294967295 (Prints r.shown) outcome tt (λ i. none_refused r.image i.fault i.refused) r.compiled
     (record { some = omega arith; few = omega arith; bound = omega arith }) r.ends
+outcome_is_of words Locks bytes text outcome reads is = is_of Locks outcome _ is tt
 
 -- what alone runs an image of bytes is `exec`
 pub is_exec : (words : List Text) (command : Command) → Reads words command → RunsImage command → IsExec words
@@ -159,6 +160,7 @@ is_exec words (Unelf f i) reads none = absurd none
 is_exec words (Audit f p n) reads none = absurd none
 is_exec words (Trace f p n) reads none = absurd none
 is_exec words (Selftest k) reads none = absurd none
+is_exec words Locks reads none = absurd none
 
 pub is_run : (words : List Text) (command : Command) → Reads words command → Runs command → IsRun words
 is_run words command reads runs = (command, reads, runs)

@@ -6,7 +6,7 @@ use Rattle.fk_top.specs.declared.status.Status.{Status}
 use Rattle.fk_top.specs.declared.status.Status.TheVariants.{Usage, ReadFault, SourceFault, Trap, InputRefused}
 use Rattle.fk_top_words.specs.Command.{Command, Reads}
 use Rattle.fk_top_words.proofs.OneCommand.{one_command}
-use Rattle.fk_top.specs.Words.{IsRun, HasInput, IsPut, IsExec, IsFetch, Origin, FirstOf, Generated, origin_of}
+use Rattle.fk_top.specs.Words.{IsRun, HasInput, IsPut, IsExec, IsFetch, Origin, FirstOf, Generated, Nowhere, origin_of}
 use Rattle.fk_top.specs.Outcome.{Outcome, Put}
 use Rattle.fk_top.specs.Call.{Call, Request, Stored, HasPut, IsSame, Ends, IsNoCommand, IsUnread, HasRead, HasEnded, HasCause, IsCut, AreCut, FailsToWrite, TellsFaults, IsAbsent, LacksOrigin, AreRead, IsOfAbsent, IsOfNoCommand, IsAnswer}
 use Rattle.fk_top.proofs.Answered.{nothing_of}
@@ -56,6 +56,7 @@ not_read : (known : Option Files) (origin : Origin) (bytes : List ℕ) → Lacks
 not_read None (FirstOf file most) bytes lacks read = lacks
 not_read (Some files) (FirstOf file most) bytes lacks read = subst (λ (o : Option (List ℕ)). IsSomeAnd o (λ b. bytes ≡ take most b)) lacks read.0
 not_read known (Generated statements) bytes lacks read = lacks
+not_read known Nowhere bytes lacks read = lacks
 
 absent : (call : Call) (status : Status) → HasCause call status → IsAbsent call.request → IsOfAbsent status
 absent call status cause lost = go (by_answer call status cause)

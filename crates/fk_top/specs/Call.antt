@@ -18,7 +18,7 @@ use Rattle.fk_compile_text.specs.Text.{HasLayout, IsChecked}
 use Rattle.fk_compile.specs.Faithful.{IsFaithful, words_by}
 use Rattle.fk_top_input.specs.Input.{input_of}
 use Rattle.fk_top_words.specs.Command.{Command, Run, Build, Exec, ListCode, Elf}
-use Rattle.fk_top_words.specs.Command.{Unelf, Audit, Trace, Selftest, Reads}
+use Rattle.fk_top_words.specs.Command.{Unelf, Audit, Trace, Selftest, Locks, Reads}
 use Rattle.fk_top_selftest.specs.Generated.{generated}
 use Rattle.fk_top.specs.declared.report.Report.TheVariants as reports
 use Rattle.fk_top.specs.declared.status.Status.{Status}
@@ -27,7 +27,7 @@ use Rattle.fk_top.specs.declared.status.Status.TheVariants.{WriteFault, Memory, 
 use Rattle.fk_top.specs.declared.status.Status.TheVariants.{ImageRefused, InputRefused}
 use Rattle.fk_top.specs.declared.status.Status.TheVariants.{ElfRefused}
 use Rattle.fk_top.specs.Words.{IsRun, TakesInput, HasInput, Puts, IsPut, IsExec, IsFetch}
-use Rattle.fk_top.specs.Words.{Origin, FirstOf, Generated, origin_of, most_input}
+use Rattle.fk_top.specs.Words.{Origin, FirstOf, Generated, Nowhere, origin_of, most_input}
 use Rattle.fk_top.specs.Report.{line_of}
 use Rattle.fk_top.specs.Outcome.{Put, Outcome, silent, status_of, IsShown, most_numbers}
 use Rattle.fk_top.specs.Outcome.{numbers_for, ComesTo}
@@ -129,17 +129,19 @@ pub record FailedIn (sink : Sunk) (bytes : List ℕ) : Type 0 where
 abbrev pub IsNoCommand : List (List ℕ) → Type 0
 IsNoCommand words = (command : Command) → ¬ Reads words command
 
--- The file of an origin could not be read. A generated text has no file.
+-- The file of an origin could not be read. A generated text has no file, and nowhere is none.
 abbrev pub OriginFaults : Option Files → Origin → Change ℕ → Type 0
 OriginFaults files (FirstOf file most) faults = FetchFaults files file faults.before faults.after
 OriginFaults files (Generated statements) faults = ⊥
+OriginFaults files Nowhere faults = ⊥
 
 -- The bytes are those of an origin: the first ones of the file, if the store's files are known, or
--- the generated text.
+-- the generated text. From nowhere there are none.
 abbrev pub AreRead : Option Files → Origin → List ℕ → Type 0
 AreRead files (FirstOf file most) bytes =
     AppendsFile files file most [] bytes × (length bytes ≤ most)
 AreRead files (Generated statements) bytes = bytes ≡ generated statements
+AreRead files Nowhere bytes = bytes ≡ []
 
 -- The file of a command could not be read, and nothing was taken from the input.
 pub record IsFileUnread (request : Request) (command : Command) : Type 0 where
@@ -161,8 +163,8 @@ pub record IsUnread (request : Request) : Type 0 where
   pub cause : IsFileUnread request command ⊎ IsInputUnread request command
 
 -- The words are a command, and its bytes were read: the first ones of its file, if the store's
--- files are known, or its generated text. If the command takes an input, then the first bytes of the
--- input were read too, if these are known.
+-- files are known, or its generated text. If the command takes an input, then the first bytes of
+-- the input were read too, if these are known.
 pub record HasRead (request : Request) (outcome : Outcome) : Type 0 where
   pub command : Command
   pub reads : Reads request.words command
@@ -241,6 +243,7 @@ pub record TellsFaults (call : Call) (status : Status) : Type 0 where
 abbrev pub LacksOrigin : Option Files → Origin → Type 0
 LacksOrigin files (FirstOf file most) = LacksFile files file
 LacksOrigin files (Generated statements) = ⊥
+LacksOrigin files Nowhere = ⊥
 
 -- The words are a command, and the store's files are known and don't have the file that it reads.
 pub record IsAbsent (request : Request) : Type 0 where
@@ -266,6 +269,7 @@ pub record IsHeld (known : Option Files) (name bytes : List ℕ) : Type 0 where
 abbrev pub AreThere : Option Files → Origin → List ℕ → Type 0
 AreThere files (FirstOf file most) bytes = IsHeld files file bytes
 AreThere files (Generated statements) bytes = bytes ≡ generated statements
+AreThere files Nowhere bytes = bytes ≡ []
 
 -- The words are a command. The store has its file, with these bytes, or they are its generated
 -- text. What is left of the input is this text, and no count of faults rose in the call.
@@ -293,7 +297,7 @@ abbrev pub IsElf : List ℕ → Type 0
 IsElf bytes = (image : Image) × IsElfOf bytes image
 
 -- What a command reads is in order: a text, which has the variable that is to be shown, an image,
--- or the ELF file of one.
+-- or the ELF file of one. A command that reads nothing has nothing out of order.
 abbrev pub IsReadable : Command → List ℕ → Type 0
 IsReadable (Run file harts cycles show) source = IsText source × (shown : Option Row)
     × IsShown source show shown
@@ -306,6 +310,7 @@ IsReadable (Audit file harts cycles) source = IsText source
 IsReadable (Trace file harts cycles) source = IsText source
 IsReadable (Selftest statements) source = IsText source × (shown : Option Row)
     × IsShown source (Some (codes "c")) shown
+IsReadable Locks bytes = Unit {0}
 
 -- The text has numbers, and no more than there may be beside this many globals.
 abbrev pub IsInputBeside : ℕ → List ℕ → Type 0
@@ -330,6 +335,7 @@ IsAccepted (Unelf file image) bytes text = Unit {0}
 IsAccepted (Audit file harts cycles) source text = IsInputOfText source text
 IsAccepted (Trace file harts cycles) source text = IsInputOfText source text
 IsAccepted (Selftest statements) source text = Unit {0}
+IsAccepted Locks bytes text = Unit {0}
 
 -- The status for the machine of an image on the numbers of a text.
 abbrev pub IsOfStand : Image → List ℕ → ℕ → ℕ → Status → Type 0
@@ -360,6 +366,7 @@ IsOfAccepted (Trace file harts cycles) source text status =
     (status ≡ Memory) ⊎ IsOfRun source text harts cycles status
 IsOfAccepted (Selftest statements) source text status =
     (status ≡ Memory) ⊎ IsOfRun source [] 64 4294967295 status
+IsOfAccepted Locks bytes text status = (status ≡ Memory) ⊎ (status ≡ Done)
 
 -- The statuses where what is read isn't in order.
 abbrev pub IsOfUnreadable : Command → Status → Type 0
@@ -372,6 +379,7 @@ IsOfUnreadable (Unelf file image) status = (status ≡ Memory) ⊎ (status ≡ E
 IsOfUnreadable (Audit file harts cycles) status = (status ≡ Memory) ⊎ (status ≡ Refused)
 IsOfUnreadable (Trace file harts cycles) status = (status ≡ Memory) ⊎ (status ≡ Refused)
 IsOfUnreadable (Selftest statements) status = (status ≡ Memory) ⊎ (status ≡ Refused)
+IsOfUnreadable Locks status = status ≡ Memory
 
 -- The statuses where what is read is in order and the input isn't.
 abbrev pub IsOfUnaccepted : Status → Type 0

@@ -9,9 +9,10 @@ use Rattle.fk_elf.specs.Files.{IsElfOf}
 use Rattle.fk_asm.specs.Listing as lines
 use Rattle.fk_top_input.specs.declared.fault.InputFault.{InputFault}
 use Rattle.fk_top_input.specs.Input.{input_of}
+use Rattle.fk_locks.specs.Text.{lock_bytes}
 use Rattle.fk_top_words.specs.Arguments.{Text}
 use Rattle.fk_top_words.specs.Command.{Command, Run, Build, Exec, ListCode, Elf}
-use Rattle.fk_top_words.specs.Command.{Unelf, Audit, Trace, Selftest}
+use Rattle.fk_top_words.specs.Command.{Unelf, Audit, Trace, Selftest, Locks}
 use Rattle.fk_machine.specs.declared.stand.Stand.{Stand}
 use Rattle.fk_machine.specs.declared.stand.Stand.TheVariants.{Running, Finished, Faulted, Trapped}
 use Rattle.fk_machine.specs.Cycle.{Machine, machine_opening}
@@ -301,6 +302,11 @@ pub record PutsFromElf (file name : List ℕ) (outcome : Outcome) : Type 0 where
   pub spelled : IsImageOf bytes image
   pub is : outcome ≡ wrote name bytes
 
+-- The text of the fair lock is given.
+abbrev pub gave_lock : Outcome
+gave_lock =
+    record { status = Done; put = None; output = lock_bytes; line = line_of (reports.Wrote 205) }
+
 -- The outcome of a command, for the bytes that it read and those of the input. A generated text is
 -- run by 64 harts, without input numbers and for at most 2^32 - 1 cycles, and `c` is shown.
 abbrev pub ComesTo : Command → List ℕ → List ℕ → Outcome → Type 0
@@ -323,3 +329,4 @@ ComesTo (Trace file harts cycles) source text outcome = RefusesSource source out
 ComesTo (Selftest statements) source text outcome =
     RefusesSource source outcome ⊎ LacksGlobal source (Some (codes "c")) outcome
     ⊎ RunsSource source [] 64 4294967295 (Some (codes "c")) outcome
+ComesTo Locks bytes text outcome = outcome ≡ gave_lock

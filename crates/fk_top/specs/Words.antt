@@ -4,7 +4,7 @@ use Rattle.std.specs.Prelude.{◌+◌, ℕ, List}
 use Rattle.fk_num.specs.Limits.{most_text_bytes}
 use Rattle.fk_top_words.specs.Arguments.{Text}
 use Rattle.fk_top_words.specs.Command.{Command, Run, Build, Exec, ListCode, Elf}
-use Rattle.fk_top_words.specs.Command.{Unelf, Audit, Trace, Selftest, Reads}
+use Rattle.fk_top_words.specs.Command.{Unelf, Audit, Trace, Selftest, Locks, Reads}
 use Rattle.fk_top.specs.declared.command.OriginWords.{OriginWords}
 use Rattle.fk_top.specs.declared.command.OriginWords.TheVariants as words
 
@@ -49,10 +49,11 @@ abbrev pub IsExec : List Text → Type 0
 IsExec words = (image : Text) × (harts : ℕ) × (cycles : ℕ) × Reads words (Exec image harts cycles)
 
 -- Where the bytes that a command reads come from: the first ones of a file, at most so many, or the
--- generated text with so many statements.
+-- generated text with so many statements. A command from nowhere reads nothing.
 pub data Origin : Type 0 where
   FirstOf : (file : Text) (most : ℕ) → Origin
   Generated : (statements : ℕ) → Origin
+  Nowhere : Origin
 
 -- Of a file a command reads at most one byte more than a source may have, or than an image or its
 -- ELF file can have.
@@ -66,20 +67,23 @@ origin_of (Unelf file image) = FirstOf file 5435037
 origin_of (Audit file harts cycles) = FirstOf file (most_text_bytes + 1)
 origin_of (Trace file harts cycles) = FirstOf file (most_text_bytes + 1)
 origin_of (Selftest statements) = Generated statements
+origin_of Locks = Nowhere
 
 abbrev pub origin_from : OriginWords → Origin
 origin_from (words.File file most) = FirstOf file.now most
 origin_from (words.Generated statements) = Generated statements
+origin_from words.Nowhere = Nowhere
 
 abbrev pub IsFile : Origin → Type 0
 IsFile (FirstOf file most) = Unit {0}
 IsFile (Generated statements) = ⊥
+IsFile Nowhere = ⊥
 
 -- The words are a command that reads a file.
 abbrev pub IsFetch : List Text → Type 0
 IsFetch words = (command : Command) × Reads words command × IsFile (origin_of command)
 
--- The most bytes of the input that a command takes: one more than an input text may have, or none.
+-- The most bytes of the input that a command takes: one more than an input text may have, or 0.
 abbrev pub most_input : Command → ℕ
 most_input (Run file harts cycles show) = most_text_bytes + 1
 most_input (Build file image) = 0
@@ -90,3 +94,4 @@ most_input (Unelf file image) = 0
 most_input (Audit file harts cycles) = most_text_bytes + 1
 most_input (Trace file harts cycles) = most_text_bytes + 1
 most_input (Selftest statements) = 0
+most_input Locks = 0

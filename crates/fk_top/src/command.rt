@@ -20,6 +20,8 @@ pub enum OriginWords<'a> {
     File(&'a str, usize),
     /// The generated text with so many statements.
     Generated(u32),
+    /// The command reads nothing.
+    Nowhere,
 }
 
 /// Where the bytes that a command reads come from.
@@ -36,10 +38,11 @@ pub fn origin_of<'a>(command: CommandWords<'a>) -> OriginWords<'a>
         }
         CommandWords::Unelf(file, _) => OriginWords::File(file, ELF_LIMIT + 1),
         CommandWords::Selftest(statements) => OriginWords::Generated(statements),
+        CommandWords::Locks => OriginWords::Nowhere,
     }
 }
 
-/// The most bytes of the input that a command takes, or none.
+/// The most bytes of the input that a command takes, 0 if it takes none.
 pub fn most_input(command: CommandWords) -> usize
     ensures { result ≡ most_input (command_of command.entry) }
 {
@@ -48,5 +51,6 @@ pub fn most_input(command: CommandWords) -> usize
         CommandWords::Audit(_, _) | CommandWords::Trace(_, _) => MOST_TEXT_BYTES + 1,
         CommandWords::Build(_, _) | CommandWords::List(_) => 0,
         CommandWords::Elf(_, _) | CommandWords::Unelf(_, _) | CommandWords::Selftest(_) => 0,
+        CommandWords::Locks => 0,
     }
 }

@@ -15,6 +15,7 @@ use crate::command::origin_of;
 use crate::elf::{put_elf, put_image};
 use crate::ending::{Ending, silent};
 use crate::input::take_input;
+use crate::lock::give_lock;
 use crate::reading::read_bytes;
 use crate::report::Report;
 use crate::source::{audit_source, build_source, run_source, test_source, trace_source};
@@ -109,5 +110,6 @@ fn command_ending<'a>(
         CommandWords::Audit(_, run) => audit_source(alloc, bytes, text, run),
         CommandWords::Trace(_, run) => trace_source(alloc, bytes, text, run),
         CommandWords::Selftest(_) => test_source(alloc, bytes),
+        CommandWords::Locks => give_lock(alloc),
     }
 }

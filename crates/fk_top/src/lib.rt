@@ -11,6 +11,7 @@ mod find;
 mod input;
 mod kinds;
 mod line;
+mod lock;
 mod machine_run;
 mod reading;
 mod reason;

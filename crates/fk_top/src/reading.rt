@@ -1,4 +1,4 @@
-//! Reading what a command reads.
+//! The bytes that a command reads.
 
 ghost use Rattle.std.specs.Prelude.{◌≡◌, IfOk, IsErrOf, OnOk};
 ghost use Rattle.fk_top.specs.Call.{AreRead, OriginFaults, change_of};
@@ -9,7 +9,8 @@ use fk_ports::{Store, StoreFault};
 use fk_top_selftest::generate;
 use std::alloc::Global;
 
-/// The first bytes of a file, or a generated text, for which nothing is fetched.
+/// The first bytes of a file, or a generated text, for which nothing is fetched. A command that
+/// reads nothing has no bytes.
 pub fn read_bytes<F: Store>(
     alloc: Global,
     origin: OriginWords,
@@ -34,5 +35,6 @@ pub fn read_bytes<F: Store>(
             Ok(bytes)
         }
         OriginWords::Generated(statements) => Ok(generate(alloc, statements)?),
+        OriginWords::Nowhere => Ok(Vec::new(alloc)),
     }
 }

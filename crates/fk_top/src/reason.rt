@@ -9,7 +9,8 @@ ghost use Rattle.fk_top.specs.Report.{reason_text};
 use crate::line::{Line, append, append_number, append_place, numbered, placed, plain};
 use fk_syntax::Place;
 
-/// Why a file or an input text is refused.
+/// Why a file or an input text is refused. The refusals that have a name in their line,
+/// `FrameTooLarge` and `NoGlobal`, are in `LastLine`.
 #[derive(Clone, Copy, PartialEq, Eq, Debug)]
 pub enum Reason {
     /// A byte of the source begins no token.

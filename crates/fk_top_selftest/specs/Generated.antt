@@ -17,7 +17,7 @@ statement_of kind word amount bound parts =
     else if kind == 4 then codes "farm mpadd(&c[" ++ word ++ codes "], " ++ amount ++ codes ");"
     else codes "seq c[" ++ word ++ codes "] = c[" ++ word ++ codes "] + " ++ amount ++ codes ";"
 
--- The statement of a number.
+-- The statement with this number.
 abbrev pub statement : ℕ → List ℕ
 statement i =
     statement_of (i % 6) (decimal (i % 8)) (decimal (i % 9 + 1)) (decimal (i % 7 + 1))

@@ -1,4 +1,4 @@
-//! Making the text.
+//! The generator of the text.
 
 ghost use Rattle.std.specs.Prelude.{◌≡◌, string_bytes, IfOk};
 ghost use Rattle.fk_top_selftest.specs.Generated.{generated, statement};

@@ -5,5 +5,6 @@ pub mod Steps
 pub mod Taken
 pub mod Spelled
 pub mod Lines
+pub mod Bare
 pub mod Whole
 pub mod OneCommand

@@ -111,6 +111,9 @@ behind_trace words = behind (codes "trace") exec_parts (record { labelled = refl
 pub behind_selftest : (words : List Text) → Behind (codes "selftest") list_parts words
 behind_selftest words = behind (codes "selftest") list_parts (record { labelled = refl; entered = refl; no_help = refl }) words
 
+pub behind_locks : (words : List Text) → Behind (codes "locks") [] words
+behind_locks words = behind (codes "locks") [] (record { labelled = refl; entered = refl; no_help = refl }) words
+
 -- ---- other first words
 
 pub no_words : fault_of written_app [] ≡ [] → ⊥
@@ -128,23 +131,25 @@ pub data Named (word : Text) : Type 0 where
   is_audit : word ≡ codes "audit" → Named word
   is_trace : word ≡ codes "trace" → Named word
   is_selftest : word ≡ codes "selftest" → Named word
+  is_locks : word ≡ codes "locks" → Named word
   other : find (answers_to word) (names_of app) ≡ None → Named word
 
 pub named : (word : Text) → Named word
 named word =
-    by (bytes_eq (codes "run") word) (bytes_eq (codes "build") word) (bytes_eq (codes "exec") word) (bytes_eq (codes "list") word) (bytes_eq (codes "elf") word) (bytes_eq (codes "unelf") word) (bytes_eq (codes "audit") word) (bytes_eq (codes "trace") word) (bytes_eq (codes "selftest") word) refl refl refl refl refl refl refl refl refl
+    by (bytes_eq (codes "run") word) (bytes_eq (codes "build") word) (bytes_eq (codes "exec") word) (bytes_eq (codes "list") word) (bytes_eq (codes "elf") word) (bytes_eq (codes "unelf") word) (bytes_eq (codes "audit") word) (bytes_eq (codes "trace") word) (bytes_eq (codes "selftest") word) (bytes_eq (codes "locks") word) refl refl refl refl refl refl refl refl refl refl
   where
-    by : (a b c d e f g h i : Bool) → bytes_eq (codes "run") word ≡ a → bytes_eq (codes "build") word ≡ b → bytes_eq (codes "exec") word ≡ c → bytes_eq (codes "list") word ≡ d → bytes_eq (codes "elf") word ≡ e → bytes_eq (codes "unelf") word ≡ f → bytes_eq (codes "audit") word ≡ g → bytes_eq (codes "trace") word ≡ h → bytes_eq (codes "selftest") word ≡ i → Named word
-    by true b c d e f g h i p q r s t u v w x = is_run (sym (same_text (codes "run") word p))
-    by false true c d e f g h i p q r s t u v w x = is_build (sym (same_text (codes "build") word q))
-    by false false true d e f g h i p q r s t u v w x = is_exec (sym (same_text (codes "exec") word r))
-    by false false false true e f g h i p q r s t u v w x = is_list (sym (same_text (codes "list") word s))
-    by false false false false true f g h i p q r s t u v w x = is_elf (sym (same_text (codes "elf") word t))
-    by false false false false false true g h i p q r s t u v w x = is_unelf (sym (same_text (codes "unelf") word u))
-    by false false false false false false true h i p q r s t u v w x = is_audit (sym (same_text (codes "audit") word v))
-    by false false false false false false false true i p q r s t u v w x = is_trace (sym (same_text (codes "trace") word w))
-    by false false false false false false false false true p q r s t u v w x = is_selftest (sym (same_text (codes "selftest") word x))
-    by false false false false false false false false false p q r s t u v w x = other (rw (p, q, r, s, t, u, v, w, x) refl)
+    by : (a b c d e f g h i j : Bool) → bytes_eq (codes "run") word ≡ a → bytes_eq (codes "build") word ≡ b → bytes_eq (codes "exec") word ≡ c → bytes_eq (codes "list") word ≡ d → bytes_eq (codes "elf") word ≡ e → bytes_eq (codes "unelf") word ≡ f → bytes_eq (codes "audit") word ≡ g → bytes_eq (codes "trace") word ≡ h → bytes_eq (codes "selftest") word ≡ i → bytes_eq (codes "locks") word ≡ j → Named word
+    by true b c d e f g h i j p q r s t u v w x y = is_run (sym (same_text (codes "run") word p))
+    by false true c d e f g h i j p q r s t u v w x y = is_build (sym (same_text (codes "build") word q))
+    by false false true d e f g h i j p q r s t u v w x y = is_exec (sym (same_text (codes "exec") word r))
+    by false false false true e f g h i j p q r s t u v w x y = is_list (sym (same_text (codes "list") word s))
+    by false false false false true f g h i j p q r s t u v w x y = is_elf (sym (same_text (codes "elf") word t))
+    by false false false false false true g h i j p q r s t u v w x y = is_unelf (sym (same_text (codes "unelf") word u))
+    by false false false false false false true h i j p q r s t u v w x y = is_audit (sym (same_text (codes "audit") word v))
+    by false false false false false false false true i j p q r s t u v w x y = is_trace (sym (same_text (codes "trace") word w))
+    by false false false false false false false false true j p q r s t u v w x y = is_selftest (sym (same_text (codes "selftest") word x))
+    by false false false false false false false false false true p q r s t u v w x y = is_locks (sym (same_text (codes "locks") word y))
+    by false false false false false false false false false false p q r s t u v w x y = other (rw (p, q, r, s, t, u, v, w, x, y) refl)
 
 module _ (word : Text) (words : List Text) (none : find (answers_to word) (names_of app) ≡ None) where
   turn_other : Form word → (word ≡ 45 ∷ 45 ∷ [] → ⊥) → turn_fault app.top (names_of app) (walk_from nothing_held) word ≡ [] → ⊥

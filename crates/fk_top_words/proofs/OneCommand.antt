@@ -4,7 +4,7 @@ use Rattle.std.specs.Str.{bytes_eq}
 use Rattle.clap.specs.Walk.{Row}
 use Rattle.fk_top_words.specs.Arguments.{Text}
 use Rattle.fk_top_words.specs.Asked.{AsksFor, AsksOf}
-use Rattle.fk_top_words.specs.Command.{Command, Run, Build, Exec, ListCode, Elf, Unelf, Audit, Trace, Selftest, OneCommand}
+use Rattle.fk_top_words.specs.Command.{Command, Run, Build, Exec, ListCode, Elf, Unelf, Audit, Trace, Selftest, Locks, OneCommand}
 use Rattle.fk_top_words.proofs.Whole.{asked, differ}
 
 -- a name is that of one command
@@ -123,6 +123,25 @@ same_asked name rows (Audit file harts cycles) (Selftest statements') asks other
 same_asked name rows (Selftest statements) (Audit file' harts' cycles') asks other = apart name (codes "selftest") (codes "audit") refl asks.0 other.0
 same_asked name rows (Trace file harts cycles) (Selftest statements') asks other = apart name (codes "trace") (codes "selftest") refl asks.0 other.0
 same_asked name rows (Selftest statements) (Trace file' harts' cycles') asks other = apart name (codes "selftest") (codes "trace") refl asks.0 other.0
+same_asked name rows Locks Locks asks other = refl
+same_asked name rows (Run file harts cycles show) Locks asks other = apart name (codes "run") (codes "locks") refl asks.0 other
+same_asked name rows Locks (Run file' harts' cycles' show') asks other = apart name (codes "locks") (codes "run") refl asks other.0
+same_asked name rows (Build file image) Locks asks other = apart name (codes "build") (codes "locks") refl asks.0 other
+same_asked name rows Locks (Build file' image') asks other = apart name (codes "locks") (codes "build") refl asks other.0
+same_asked name rows (Exec image harts cycles) Locks asks other = apart name (codes "exec") (codes "locks") refl asks.0 other
+same_asked name rows Locks (Exec image' harts' cycles') asks other = apart name (codes "locks") (codes "exec") refl asks other.0
+same_asked name rows (ListCode image) Locks asks other = apart name (codes "list") (codes "locks") refl asks.0 other
+same_asked name rows Locks (ListCode image') asks other = apart name (codes "locks") (codes "list") refl asks other.0
+same_asked name rows (Elf image file) Locks asks other = apart name (codes "elf") (codes "locks") refl asks.0 other
+same_asked name rows Locks (Elf image' file') asks other = apart name (codes "locks") (codes "elf") refl asks other.0
+same_asked name rows (Unelf file image) Locks asks other = apart name (codes "unelf") (codes "locks") refl asks.0 other
+same_asked name rows Locks (Unelf file' image') asks other = apart name (codes "locks") (codes "unelf") refl asks other.0
+same_asked name rows (Audit file harts cycles) Locks asks other = apart name (codes "audit") (codes "locks") refl asks.0 other
+same_asked name rows Locks (Audit file' harts' cycles') asks other = apart name (codes "locks") (codes "audit") refl asks other.0
+same_asked name rows (Trace file harts cycles) Locks asks other = apart name (codes "trace") (codes "locks") refl asks.0 other
+same_asked name rows Locks (Trace file' harts' cycles') asks other = apart name (codes "locks") (codes "trace") refl asks other.0
+same_asked name rows (Selftest statements) Locks asks other = apart name (codes "selftest") (codes "locks") refl asks.0 other
+same_asked name rows Locks (Selftest statements') asks other = apart name (codes "locks") (codes "selftest") refl asks other.0
 
 pub one_command : OneCommand
 one_command words c d reads other =

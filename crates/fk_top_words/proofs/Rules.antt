@@ -40,7 +40,7 @@ app = record {
       ∷ command (codes "exec") exec_parts ∷ command (codes "list") list_parts
       ∷ command (codes "elf") put_parts ∷ command (codes "unelf") put_parts
       ∷ command (codes "audit") exec_parts ∷ command (codes "trace") exec_parts
-      ∷ command (codes "selftest") list_parts ∷ [];
+      ∷ command (codes "selftest") list_parts ∷ command (codes "locks") [] ∷ [];
 }
 
 pub built-written : built written_app ≡ app

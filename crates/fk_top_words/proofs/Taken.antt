@@ -78,7 +78,7 @@ rest_fault name ps w words = or_else (walk_fault (command name ps) [] w words) (
 abbrev pub rows_at_end : List Part → Walk → List Text → List Row
 rows_at_end ps w words = finished (rules ps) (fold (walked (rules ps) []) w words).held
 
-turn_of : (name : Text) (ps : List Part) (w : Walk) (word : Text) (words : List Text) → rest_fault name ps w (word ∷ words) ≡ []
+pub turn_of : (name : Text) (ps : List Part) (w : Walk) (word : Text) (words : List Text) → rest_fault name ps w (word ∷ words) ≡ []
     → turn_fault (command name ps) [] w word ≡ []
 unfolding walk_fault
 turn_of name ps w word words fine = first_empty _ _ (first_empty _ _ fine)
@@ -108,7 +108,7 @@ goes name ps w after word words turn allowed = record {
   rows_same = rows-is ps w after word words (turn.stands allowed);
 }
 
-goes_fine : {Allowed : Type 0} (name : Text) (ps : List Part) (w after : Walk) (word : Text) (words : List Text) → Turn name ps w word Allowed after
+pub goes_fine : {Allowed : Type 0} (name : Text) (ps : List Part) (w after : Walk) (word : Text) (words : List Text) → Turn name ps w word Allowed after
     → rest_fault name ps w (word ∷ words) ≡ [] → Goes name ps w after word words Allowed
 goes_fine name ps w after word words turn fine =
     goes name ps w after word words turn (turn.then_allowed (turn_of name ps w word words fine))

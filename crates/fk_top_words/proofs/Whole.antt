@@ -14,13 +14,14 @@ use Rattle.std.proofs.lemmas.Str.{IsUtf8-string_bytes}
 use Rattle.clap.specs.Simple.{App, is_simple, subcommand_of}
 use Rattle.fk_top_words.specs.Arguments.{Text, Part, File, Harts, Cycles, Show, Image, Argument, Values, Gives, Spells, all_values, values_of}
 use Rattle.fk_top_words.specs.Asked.{AsksFor, AsksOf, RunsBy, StatementsBy, number_of}
-use Rattle.fk_top_words.specs.Command.{Command, Run, Build, Exec, ListCode, Elf, Unelf, Audit, Trace, Selftest, Reads, ReadsStatements, ReadsRun, ReadsBehind, once_or_never, only_file, two_files}
+use Rattle.fk_top_words.specs.Command.{Command, Run, Build, Exec, ListCode, Elf, Unelf, Audit, Trace, Selftest, Locks, Reads, ReadsStatements, ReadsRun, ReadsBehind, once_or_never, only_file, two_files}
 use Rattle.fk_top_words.specs.Written.{id_of, run_parts, put_parts, exec_parts, list_parts, written_app}
 use Rattle.fk_top_words.proofs.Rules.{IsCommand, exec_command, is_in, list_command, put_command, run_command}
 use Rattle.fk_top_words.proofs.Given.{IsOnce, at, first-rows, given, lacks, no_values, rows, some_values}
 use Rattle.fk_top_words.proofs.Taken.{Adds, AreIn, AreTexts, rows_at_end, sound}
 use Rattle.fk_top_words.proofs.Spelled.{gets}
-use Rattle.fk_top_words.proofs.Lines.{Behind, Named, is_run, is_build, is_exec, is_list, is_elf, is_unelf, is_audit, is_trace, is_selftest, other, named, behind_run, behind_build, behind_exec, behind_list, behind_elf, behind_unelf, behind_audit, behind_trace, behind_selftest, no_words, other_word}
+use Rattle.fk_top_words.proofs.Bare.{Bare, bare_fine, gives_none, spelled_bare, taken_bare}
+use Rattle.fk_top_words.proofs.Lines.{Behind, Named, is_run, is_build, is_exec, is_list, is_elf, is_unelf, is_audit, is_trace, is_selftest, is_locks, other, named, behind_run, behind_build, behind_exec, behind_list, behind_elf, behind_unelf, behind_audit, behind_trace, behind_selftest, behind_locks, no_words, other_word}
 
 pub differ : (a b : Text) → bytes_eq a b ≡ false → a ≡ b → ⊥
 differ a b e same = let t = (bytes_eq-Decides a b).1 same in let bad : true ≡ false = sym t ∙ e in cc
@@ -146,6 +147,7 @@ asked_run words end adds (Unelf file image) asks = absurd (differ (codes "run") 
 asked_run words end adds (Audit file harts cycles) asks = absurd (differ (codes "run") (codes "audit") refl asks.0)
 asked_run words end adds (Trace file harts cycles) asks = absurd (differ (codes "run") (codes "trace") refl asks.0)
 asked_run words end adds (Selftest statements) asks = absurd (differ (codes "run") (codes "selftest") refl asks.0)
+asked_run words end adds Locks asks = absurd (differ (codes "run") (codes "locks") refl asks)
 
 asked_build : (words : List Text) (end : List Row) → Adds put_parts [] false words end → (command : Command) → AsksFor (codes "build") end command → ReadsBehind (codes "build") words command
 asked_build words end adds (Run file harts cycles show) asks = absurd (differ (codes "build") (codes "run") refl asks.0)
@@ -157,6 +159,7 @@ asked_build words end adds (Unelf file image) asks = absurd (differ (codes "buil
 asked_build words end adds (Audit file harts cycles) asks = absurd (differ (codes "build") (codes "audit") refl asks.0)
 asked_build words end adds (Trace file harts cycles) asks = absurd (differ (codes "build") (codes "trace") refl asks.0)
 asked_build words end adds (Selftest statements) asks = absurd (differ (codes "build") (codes "selftest") refl asks.0)
+asked_build words end adds Locks asks = absurd (differ (codes "build") (codes "locks") refl asks)
 
 asked_exec : (words : List Text) (end : List Row) → Adds exec_parts [] false words end → (command : Command) → AsksFor (codes "exec") end command → ReadsBehind (codes "exec") words command
 asked_exec words end adds (Run file harts cycles show) asks = absurd (differ (codes "exec") (codes "run") refl asks.0)
@@ -168,6 +171,7 @@ asked_exec words end adds (Unelf file image) asks = absurd (differ (codes "exec"
 asked_exec words end adds (Audit file harts cycles) asks = absurd (differ (codes "exec") (codes "audit") refl asks.0)
 asked_exec words end adds (Trace file harts cycles) asks = absurd (differ (codes "exec") (codes "trace") refl asks.0)
 asked_exec words end adds (Selftest statements) asks = absurd (differ (codes "exec") (codes "selftest") refl asks.0)
+asked_exec words end adds Locks asks = absurd (differ (codes "exec") (codes "locks") refl asks)
 
 asked_list : (words : List Text) (end : List Row) → Adds list_parts [] false words end → (command : Command) → AsksFor (codes "list") end command → ReadsBehind (codes "list") words command
 asked_list words end adds (Run file harts cycles show) asks = absurd (differ (codes "list") (codes "run") refl asks.0)
@@ -179,6 +183,7 @@ asked_list words end adds (Unelf file image) asks = absurd (differ (codes "list"
 asked_list words end adds (Audit file harts cycles) asks = absurd (differ (codes "list") (codes "audit") refl asks.0)
 asked_list words end adds (Trace file harts cycles) asks = absurd (differ (codes "list") (codes "trace") refl asks.0)
 asked_list words end adds (Selftest statements) asks = absurd (differ (codes "list") (codes "selftest") refl asks.0)
+asked_list words end adds Locks asks = absurd (differ (codes "list") (codes "locks") refl asks)
 
 asked_elf : (words : List Text) (end : List Row) → Adds put_parts [] false words end → (command : Command) → AsksFor (codes "elf") end command → ReadsBehind (codes "elf") words command
 asked_elf words end adds (Run file harts cycles show) asks = absurd (differ (codes "elf") (codes "run") refl asks.0)
@@ -190,6 +195,7 @@ asked_elf words end adds (Unelf file image) asks = absurd (differ (codes "elf") 
 asked_elf words end adds (Audit file harts cycles) asks = absurd (differ (codes "elf") (codes "audit") refl asks.0)
 asked_elf words end adds (Trace file harts cycles) asks = absurd (differ (codes "elf") (codes "trace") refl asks.0)
 asked_elf words end adds (Selftest statements) asks = absurd (differ (codes "elf") (codes "selftest") refl asks.0)
+asked_elf words end adds Locks asks = absurd (differ (codes "elf") (codes "locks") refl asks)
 
 asked_unelf : (words : List Text) (end : List Row) → Adds put_parts [] false words end → (command : Command) → AsksFor (codes "unelf") end command → ReadsBehind (codes "unelf") words command
 asked_unelf words end adds (Run file harts cycles show) asks = absurd (differ (codes "unelf") (codes "run") refl asks.0)
@@ -201,6 +207,7 @@ asked_unelf words end adds (Unelf file image) asks = (refl, reads_put words end 
 asked_unelf words end adds (Audit file harts cycles) asks = absurd (differ (codes "unelf") (codes "audit") refl asks.0)
 asked_unelf words end adds (Trace file harts cycles) asks = absurd (differ (codes "unelf") (codes "trace") refl asks.0)
 asked_unelf words end adds (Selftest statements) asks = absurd (differ (codes "unelf") (codes "selftest") refl asks.0)
+asked_unelf words end adds Locks asks = absurd (differ (codes "unelf") (codes "locks") refl asks)
 
 asked_audit : (words : List Text) (end : List Row) → Adds exec_parts [] false words end → (command : Command) → AsksFor (codes "audit") end command → ReadsBehind (codes "audit") words command
 asked_audit words end adds (Run file harts cycles show) asks = absurd (differ (codes "audit") (codes "run") refl asks.0)
@@ -212,6 +219,7 @@ asked_audit words end adds (Unelf file image) asks = absurd (differ (codes "audi
 asked_audit words end adds (Audit file harts cycles) asks = (refl, reads_exec words end adds file harts cycles asks.1 asks.2)
 asked_audit words end adds (Trace file harts cycles) asks = absurd (differ (codes "audit") (codes "trace") refl asks.0)
 asked_audit words end adds (Selftest statements) asks = absurd (differ (codes "audit") (codes "selftest") refl asks.0)
+asked_audit words end adds Locks asks = absurd (differ (codes "audit") (codes "locks") refl asks)
 
 asked_trace : (words : List Text) (end : List Row) → Adds exec_parts [] false words end → (command : Command) → AsksFor (codes "trace") end command → ReadsBehind (codes "trace") words command
 asked_trace words end adds (Run file harts cycles show) asks = absurd (differ (codes "trace") (codes "run") refl asks.0)
@@ -223,6 +231,7 @@ asked_trace words end adds (Unelf file image) asks = absurd (differ (codes "trac
 asked_trace words end adds (Audit file harts cycles) asks = absurd (differ (codes "trace") (codes "audit") refl asks.0)
 asked_trace words end adds (Trace file harts cycles) asks = (refl, reads_exec words end adds file harts cycles asks.1 asks.2)
 asked_trace words end adds (Selftest statements) asks = absurd (differ (codes "trace") (codes "selftest") refl asks.0)
+asked_trace words end adds Locks asks = absurd (differ (codes "trace") (codes "locks") refl asks)
 
 asked_selftest : (words : List Text) (end : List Row) → Adds list_parts [] false words end → (command : Command) → AsksFor (codes "selftest") end command → ReadsBehind (codes "selftest") words command
 asked_selftest words end adds (Run file harts cycles show) asks = absurd (differ (codes "selftest") (codes "run") refl asks.0)
@@ -234,6 +243,19 @@ asked_selftest words end adds (Unelf file image) asks = absurd (differ (codes "s
 asked_selftest words end adds (Audit file harts cycles) asks = absurd (differ (codes "selftest") (codes "audit") refl asks.0)
 asked_selftest words end adds (Trace file harts cycles) asks = absurd (differ (codes "selftest") (codes "trace") refl asks.0)
 asked_selftest words end adds (Selftest statements) asks = (refl, reads_selftest words end adds statements asks.1)
+asked_selftest words end adds Locks asks = absurd (differ (codes "selftest") (codes "locks") refl asks)
+
+asked_locks : (words : List Text) (end : List Row) → Bare words → (command : Command) → AsksFor (codes "locks") end command → ReadsBehind (codes "locks") words command
+asked_locks words end is (Run file harts cycles show) asks = absurd (differ (codes "locks") (codes "run") refl asks.0)
+asked_locks words end is (Build file image) asks = absurd (differ (codes "locks") (codes "build") refl asks.0)
+asked_locks words end is (Exec image harts cycles) asks = absurd (differ (codes "locks") (codes "exec") refl asks.0)
+asked_locks words end is (ListCode image) asks = absurd (differ (codes "locks") (codes "list") refl asks.0)
+asked_locks words end is (Elf image file) asks = absurd (differ (codes "locks") (codes "elf") refl asks.0)
+asked_locks words end is (Unelf file image) asks = absurd (differ (codes "locks") (codes "unelf") refl asks.0)
+asked_locks words end is (Audit file harts cycles) asks = absurd (differ (codes "locks") (codes "audit") refl asks.0)
+asked_locks words end is (Trace file harts cycles) asks = absurd (differ (codes "locks") (codes "trace") refl asks.0)
+asked_locks words end is (Selftest statements) asks = absurd (differ (codes "locks") (codes "selftest") refl asks.0)
+asked_locks words end is Locks asks = (refl, gives_none words is)
 
 taken_named : (name : Text) (ps : List Part) (known : IsCommand ps) (words : List Text) → Behind name ps words → AreTexts words
     → ((end : List Row) → Adds ps [] false words end → (command : Command) → AsksFor name end command → ReadsBehind name words command)
@@ -261,6 +283,10 @@ taken_word word words texts (is_trace e) fine =
     subst (λ w. IsTaken (w ∷ words)) (sym e) (taken_named (codes "trace") exec_parts exec_command words (behind_trace words) texts (asked_trace words) (subst (λ w. fault_of written_app (w ∷ words) ≡ []) e fine))
 taken_word word words texts (is_selftest e) fine =
     subst (λ w. IsTaken (w ∷ words)) (sym e) (taken_named (codes "selftest") list_parts list_command words (behind_selftest words) texts (asked_selftest words) (subst (λ w. fault_of written_app (w ∷ words) ≡ []) e fine))
+taken_word word words texts (is_locks e) fine =
+    let is = taken_bare words texts (sym (behind_locks words).fault ∙ subst (λ w. fault_of written_app (w ∷ words) ≡ []) e fine) in
+    subst (λ w. IsTaken (w ∷ words)) (sym e)
+    (record { name = codes "locks"; found = rows_at_end [] (at [] None false false) words; matches = (behind_locks words).rows_are; reads = asked_locks words (rows_at_end [] (at [] None false false) words) is })
 taken_word word words texts (other none) fine = absurd (other_word word words none fine)
 
 pub taken : (words : List Text) → AreTexts words → fault_of written_app words ≡ [] → IsTaken words
@@ -471,6 +497,10 @@ asked_as word words (Selftest statements) reads =
     (asked_named (codes "selftest") list_parts list_command words (Selftest statements) us (Some r.text) None None None None (behind_selftest words) r.given.spelled each
     (list_in us each.harts each.cycles each.show each.image) (rw gf refl)
     (λ end e. (refl, record { statements_are = ap (option_and_then read_word) (first-is File us (Some r.text) end e each.file) ∙ r.statements_are; some = r.some; few = r.few })))
+asked_as word words Locks reads =
+    let b = behind_locks words in
+    subst (λ w. IsAsked (w ∷ words) Locks) (sym reads.0)
+    (record { fault = b.fault ∙ bare_fine words (spelled_bare reads.1.spelled reads.1.values_are); name = codes "locks"; found = rows_at_end [] (at [] None false false) words; matches = b.rows_are; asks = refl })
 
 pub asked : (words : List Text) (command : Command) → Reads words command → IsAsked words command
 asked [] command reads = absurd reads

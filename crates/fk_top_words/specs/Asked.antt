@@ -4,7 +4,7 @@ use Rattle.fk_num.specs.Numeral.{read_word}
 use Rattle.clap.specs.Walk.{Row, first_of}
 use Rattle.fk_top_words.specs.Arguments.{Text}
 use Rattle.fk_top_words.specs.Command.{Command, Run, Build, Exec, ListCode, Elf, Unelf}
-use Rattle.fk_top_words.specs.Command.{Audit, Trace, Selftest}
+use Rattle.fk_top_words.specs.Command.{Audit, Trace, Selftest, Locks}
 
 -- The number that is found for an argument.
 abbrev pub number_of : Text → List Row → Option ℕ
@@ -45,6 +45,7 @@ AsksFor name rows (Audit file harts cycles) = (name ≡ codes "audit")
 AsksFor name rows (Trace file harts cycles) = (name ≡ codes "trace")
     × (first_of (codes "file") rows ≡ Some file) × RunsBy rows harts cycles
 AsksFor name rows (Selftest statements) = (name ≡ codes "selftest") × StatementsBy rows statements
+AsksFor name rows Locks = name ≡ codes "locks"
 
 -- The command that the command word and the values which `clap` found stand for.
 abbrev pub AsksOf : Option (Text × List Row) → Command → Type 0

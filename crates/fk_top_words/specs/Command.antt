@@ -8,8 +8,8 @@ use Rattle.fk_top_words.specs.declared.command.CommandWords.TheVariants as words
 -- The commands: compile a file and run it, and then show a variable, if one is named; compile a
 -- file into an image; run an image; list an image's code; make the ELF file of an image, and the
 -- image of an ELF file; compile a file, run it, and tell which PRAM the run needed; compile a file
--- and trace its run; compile and run a generated text of this many statements. A run is by this
--- many harts, for at most this many cycles.
+-- and trace its run; compile and run a generated text of this many statements; give the text of the
+-- fair lock. A run is by this many harts, for at most this many cycles.
 pub data Command : Type 0 where
   Run : (file : Text) (harts cycles : ℕ) (show : Option Text) → Command
   Build : (file image : Text) → Command
@@ -20,6 +20,7 @@ pub data Command : Type 0 where
   Audit : (file : Text) (harts cycles : ℕ) → Command
   Trace : (file : Text) (harts cycles : ℕ) → Command
   Selftest : (statements : ℕ) → Command
+  Locks : Command
 
 abbrev pub once_or_never : Option Text → List Text
 once_or_never None = []
@@ -42,6 +43,9 @@ pub record ReadsRun (words : List Text) (file : Text) (harts cycles : ℕ)
   pub cycles_are : read_word cycles_text ≡ Some cycles
   pub some_harts : 1 ≤ harts
   pub few_harts : harts ≤ 1024
+
+abbrev pub no_values : Values
+no_values = record { file = []; harts = []; cycles = []; show = []; image = [] }
 
 abbrev pub only_file : Text → Values
 only_file file = record { file = file ∷ []; harts = []; cycles = []; show = []; image = [] }
@@ -76,6 +80,7 @@ ReadsBehind word words (Trace file harts cycles) = (word ≡ codes "trace")
     × ReadsRun words file harts cycles None
 ReadsBehind word words (Selftest statements) =
     (word ≡ codes "selftest") × ReadsStatements words statements
+ReadsBehind word words Locks = (word ≡ codes "locks") × Gives words no_values
 
 -- The words of each command, those after the program's name.
 abbrev pub Reads : List Text → Command → Type 0
@@ -97,3 +102,4 @@ command_of (words.Unelf file image) = Unelf file.now image.now
 command_of (words.Audit file r) = Audit file.now r.harts r.cycles
 command_of (words.Trace file r) = Trace file.now r.harts r.cycles
 command_of (words.Selftest statements) = Selftest statements
+command_of words.Locks = Locks

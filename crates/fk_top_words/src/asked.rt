@@ -39,17 +39,18 @@ fn asked_for<'a>(given: &ArgMatches<'a>, name: &str) -> Option<CommandWords<'a>>
     ensures none { IsNone result → (c : Command)
         → AsksFor name.now (rows_of (found_of given.now)) c → ⊥ }
 {
-    let file = text_of(given, "file")?;
+    let file = text_of(given, "file");
     match name {
-        "run" => Some(CommandWords::Run(file, asked_run(given)?, text_of(given, "show"))),
-        "build" => Some(CommandWords::Build(file, text_of(given, "image")?)),
-        "exec" => Some(CommandWords::Exec(file, asked_run(given)?)),
-        "list" => Some(CommandWords::List(file)),
-        "elf" => Some(CommandWords::Elf(file, text_of(given, "image")?)),
-        "unelf" => Some(CommandWords::Unelf(file, text_of(given, "image")?)),
-        "audit" => Some(CommandWords::Audit(file, asked_run(given)?)),
-        "trace" => Some(CommandWords::Trace(file, asked_run(given)?)),
+        "run" => Some(CommandWords::Run(file?, asked_run(given)?, text_of(given, "show"))),
+        "build" => Some(CommandWords::Build(file?, text_of(given, "image")?)),
+        "exec" => Some(CommandWords::Exec(file?, asked_run(given)?)),
+        "list" => Some(CommandWords::List(file?)),
+        "elf" => Some(CommandWords::Elf(file?, text_of(given, "image")?)),
+        "unelf" => Some(CommandWords::Unelf(file?, text_of(given, "image")?)),
+        "audit" => Some(CommandWords::Audit(file?, asked_run(given)?)),
+        "trace" => Some(CommandWords::Trace(file?, asked_run(given)?)),
         "selftest" => Some(CommandWords::Selftest(asked_statements(given)?)),
+        "locks" => Some(CommandWords::Locks),
         _ => None,
     }
 }

@@ -38,4 +38,6 @@ pub enum CommandWords<'a> {
     /// `selftest N`: compiles and runs a text with N statements, which is generated. N is from 1 to
     /// 500.
     Selftest(u32),
+    /// `locks`: gives the text of the fair lock.
+    Locks,
 }

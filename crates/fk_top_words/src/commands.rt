@@ -70,6 +70,13 @@ fn holding<'a>(
     command?.subcommand(inner?)
 }
 
+// A command without further words.
+fn bare<'a>(alloc: Global, name: &'a str) -> Result<Command<'a>, AllocError>
+    ensures { IfOk result (IsLocal (leaf name.now [])) }
+{
+    Ok(Command::new(alloc, name))
+}
+
 // A command with one word, the name of a file that it reads or a number.
 fn reading<'a>(alloc: Global, name: &'a str) -> Result<Command<'a>, AllocError>
     ensures { IfOk result (IsLocal (leaf name.now list_parts)) }
@@ -122,5 +129,6 @@ pub(crate) fn commands<'a>(alloc: Global) -> Result<Command<'a>, AllocError>
     let files = holding(files, putting(alloc, "unelf"));
     let runs = holding(files, running(alloc, "audit"));
     let runs = holding(runs, running(alloc, "trace"));
-    holding(runs, reading(alloc, "selftest"))
+    let runs = holding(runs, reading(alloc, "selftest"));
+    holding(runs, bare(alloc, "locks"))
 }

@@ -14,7 +14,9 @@ returns c =
     let unelf : App = with_subcommand elf (written_command (codes "unelf") put_parts) in
     let audit : App = with_subcommand unelf (written_command (codes "audit") exec_parts) in
     let trace : App = with_subcommand audit (written_command (codes "trace") exec_parts) in
-    c.holding.ensures trace (codes "selftest") list_parts
+    let selftest : App = with_subcommand trace (written_command (codes "selftest") list_parts) in
+    c.holding.ensures selftest (codes "locks") []
+    (c.holding-runs-3.ensures trace (codes "selftest") list_parts
     (c.holding-runs-2.ensures audit (codes "trace") exec_parts
     (c.holding-runs.ensures unelf (codes "audit") exec_parts
     (c.holding-files-2.ensures elf (codes "unelf") put_parts
@@ -22,4 +24,4 @@ returns c =
     (c.holding-images-2.ensures exec (codes "list") list_parts
     (c.holding-images.ensures build (codes "exec") exec_parts
     (c.holding-sources-2.ensures run (codes "build") put_parts
-    (c.holding-sources.ensures top (codes "run") run_parts c.program.ensures c.run.ensures) c.putting.ensures) c.running.ensures) c.reading.ensures) c.putting-2.ensures) c.putting-3.ensures) c.running-2.ensures) c.running-3.ensures) c.reading-2.ensures
+    (c.holding-sources.ensures top (codes "run") run_parts c.program.ensures c.run.ensures) c.putting.ensures) c.running.ensures) c.reading.ensures) c.putting-2.ensures) c.putting-3.ensures) c.running-2.ensures) c.running-3.ensures) c.reading-2.ensures) c.bare.ensures

@@ -1,0 +1,11 @@
+pub mod Cutting
+pub mod Decimals
+pub mod Fields
+pub mod Ranges
+pub mod Heads
+pub mod Told
+pub mod Bodies
+pub mod Whole
+pub mod Progress
+pub mod Written
+pub mod Counted

@@ -1,0 +1,10 @@
+pub mod Texts
+pub mod Lines
+pub mod Trace
+pub mod Fields
+pub mod ColumnView
+pub mod View
+pub mod LineView
+pub mod BodyView
+pub mod Written
+pub mod Rounds

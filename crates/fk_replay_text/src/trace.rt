@@ -1,0 +1,25 @@
+//! What a trace tells.
+
+/// Each of the harts from `first` to `last` does `count` operations.
+#[derive(Clone, Copy)]
+pub struct Acts {
+    pub first: u32,
+    pub last: u32,
+    pub count: u32,
+}
+
+/// A cycle in which some hart acts.
+#[derive(Drop)]
+pub struct Moment {
+    pub cycle: u32,
+    pub acts: Vec<Acts>,
+}
+
+/// A trace: the number of harts, the cycles in which some hart acts, in their order, and the number
+/// of all cycles.
+#[derive(Drop)]
+pub struct Trace {
+    pub harts: u32,
+    pub moments: Vec<Moment>,
+    pub cycles: u32,
+}

@@ -1,0 +1,4 @@
+pub mod Examples
+pub mod Counts
+pub mod Kept
+pub mod Histories
