@@ -1,0 +1,5 @@
+pub mod Answers
+pub mod Laws
+pub mod Steps
+pub mod Served
+pub mod Replay
