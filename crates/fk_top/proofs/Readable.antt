@@ -87,7 +87,7 @@ made tree notes kinds = record {
   regions = regions_of (record { notes = notes; kinds = kinds }) tree.items;
 }
 
-same_tables : (tree : ProgramTree) (one other : Facts) → AreSame one other → tables_by tree one ≡ tables_by tree other
+pub same_tables : (tree : ProgramTree) (one other : Facts) → AreSame one other → tables_by tree one ≡ tables_by tree other
 same_tables tree one other same =
     ap (λ (ns : List Note). made tree ns one.kinds.items) same.notes ∙ ap (λ (ks : List Kind). made tree other.notes.items ks) same.kinds
 

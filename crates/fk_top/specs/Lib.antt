@@ -5,3 +5,4 @@ pub mod Outcome
 pub mod Ending
 pub mod Status
 pub mod Call
+pub mod Traced
