@@ -10,5 +10,3 @@ pub mod Statuses
 pub mod Whole
 pub mod Audited
 pub mod Ended
-pub mod Committed
-pub mod Traced

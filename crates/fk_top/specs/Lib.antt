@@ -5,4 +5,3 @@ pub mod Outcome
 pub mod Ending
 pub mod Status
 pub mod Call
-pub mod Traced

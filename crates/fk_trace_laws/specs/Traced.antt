@@ -1,13 +1,8 @@
 -- What the trace of a run tells of the program.
-use Rattle.std.specs.Prelude.{◌≡◌, ℕ, ◌^◌, ◌<◌, ◌≤◌, List, Option}
+use Rattle.std.specs.Prelude.{◌≡◌, ℕ, ◌^◌, ◌<◌, ◌≤◌, List}
 use Rattle.fk_syntax.specs.declared.facts.Facts.{Facts}
 use Rattle.fk_syntax.specs.Program.{ProgramTree}
 use Rattle.fk_meaning_forms.specs.Tables.{Tables}
-use Rattle.fk_meaning.specs.Next.{Work}
-use Rattle.fk_meaning.specs.Processor.{Setting, setting_of}
-use Rattle.fk_meaning.specs.Program.{next_in, program_opening}
-use Rattle.fk_meaning.specs.Round.{Step, State}
-use Rattle.fk_meaning.specs.Schedule.{Schedule, IsLawful, run, stand_of}
 use Rattle.fk_layout.specs.Layout.{tables_by}
 use Rattle.fk_image.specs.declared.Image.{Image}
 use Rattle.fk_machine.specs.declared.stand.Stand.{Stand}
@@ -19,32 +14,22 @@ use Rattle.fk_replay_text.specs.Trace.{IsTrace, Told, moments_of}
 use Rattle.fk_sim_rounds.specs.Follows.{IsInput, StandsAgree}
 use Rattle.fk_compile_text.specs.Text.{IsChecked}
 use Rattle.fk_compile.specs.Faithful.{IsFaithful, firsts_by, words_by}
+use Rattle.fk_trace_laws.specs.Program.{IsLawfulFor, printed_by, stand_by}
 
--- The run of a program by p processors, with these initial words of shared variables and of private
--- variables of file scope, and with this input.
 module _ (tables : Tables) (program : ProgramTree) (words firsts input : List ℕ) (p : ℕ) where
-  abbrev pub next_of : Work → Option (Step Work)
-  next_of = next_in tables program
-
-  abbrev pub setting : Setting
-  setting = setting_of p words input
-
-  abbrev pub first : State Work
-  first = program_opening tables program words firsts input p
-
-  -- The run under a schedule has this output, and its status agrees with that of a machine.
-  pub record EndsWith (schedule : Schedule) (output : List ℕ) (stand : Stand) : Type 0 where
-    pub prints : (run next_of setting schedule first).store.output ≡ output
-    pub agrees : StandsAgree stand (stand_of next_of setting (run next_of setting schedule first))
-
   -- The text is a trace of p harts and so many cycles. Its rounds are a lawful schedule of the
-  -- program, and the run under it ends with this output and this status.
+  -- program, and the run under it ends with this output and with a machine's status.
   pub record IsLawfulTrace (text : List ℕ) (cycles : ℕ) (output : List ℕ)
       (stand : Stand) : Type 0 where
     pub lines : List Told
     pub trace : IsTrace p cycles lines text
-    pub lawful : IsLawful next_of setting (schedule_of p (moments_of lines) cycles) first
-    pub ends : EndsWith (schedule_of p (moments_of lines) cycles) output stand
+    pub lawful : IsLawfulFor tables program words firsts input p
+        (schedule_of p (moments_of lines) cycles)
+    pub prints : printed_by tables program words firsts input p
+        (schedule_of p (moments_of lines) cycles)
+        ≡ output
+    pub agrees : StandsAgree stand
+        (stand_by tables program words firsts input p (schedule_of p (moments_of lines) cycles))
 
 -- The trace of each run of an image that is faithful to a text is a lawful trace of the text's
 -- program, over the cycles that were begun, and ends with the output and the status of the machine.

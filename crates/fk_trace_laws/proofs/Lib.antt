@@ -1,0 +1,3 @@
+pub mod OneProgram
+pub mod Committed
+pub mod Traced
