@@ -1,0 +1,41 @@
+//! A text that can be replayed.
+
+ghost use Rattle.std.specs.Prelude.{IfErr, IfOk};
+ghost use Rattle.fk_syntax.specs.ProgramView.{program_of};
+ghost use Rattle.fk_layout.specs.Layout.{IsLayout, tables_by};
+ghost use Rattle.fk_layout.specs.Refusal.{Fits};
+ghost use Rattle.fk_compile_text.specs.Refusal.{IsRefusedText};
+ghost use Rattle.fk_compile_text.specs.Text.{IsChecked};
+ghost use Rattle.fk_compile.specs.Lists.{HasListOf};
+
+use fk_compile::{List, list_of};
+use fk_compile_text::{Built, Refusal, built_text};
+use std::alloc::Global;
+
+/// A text that keeps all rules and has a layout, with its flat list.
+#[derive(Drop)]
+pub struct Listed<'a> {
+    pub text: Built<'a>,
+    pub list: List,
+}
+
+/// A text with its flat list.
+///
+/// # Errors
+/// Those of `built_text`. A text that keeps all rules and has a layout is refused only for want of
+/// memory.
+pub fn listed_text<'a>(alloc: Global, source: &'a [u8]) -> Result<Listed<'a>, Refusal>
+    ensures checked { IfOk result
+        (λ l. IsChecked source.now (program_of l.text.tree) l.text.facts) }
+    ensures laid { IfOk result
+        (λ l. IsLayout (program_of l.text.tree) l.text.facts l.text.layout) }
+    ensures fits { IfOk result (λ l. Fits (tables_by (program_of l.text.tree) l.text.facts)
+        (program_of l.text.tree).items) }
+    ensures list { IfOk result (λ l. HasListOf (tables_by (program_of l.text.tree) l.text.facts)
+        (program_of l.text.tree) l.list.ops.items l.list.main) }
+    ensures refused { IfErr result (IsRefusedText source.now) }
+{
+    let text = built_text(alloc, source)?;
+    let list = list_of(alloc, &text)?;
+    Ok(Listed { text, list })
+}
