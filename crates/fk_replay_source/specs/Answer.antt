@@ -1,7 +1,8 @@
 -- What the replay of a program under a schedule answers.
-use Rattle.std.specs.Prelude.{◌≡◌, ℕ, List, Option, Result, Ok, Err}
+use Rattle.std.specs.Prelude.{◌≡◌, ℕ, List, Option, Result, Ok, Err, map}
 use Rattle.fk_syntax.specs.declared.facts.Facts.{Facts}
 use Rattle.fk_syntax.specs.Program.{ProgramTree}
+use Rattle.fk_meaning_forms.specs.Program.{sites_of}
 use Rattle.fk_meaning.specs.Processor.{Setting}
 use Rattle.fk_meaning.specs.Round.{Step, State}
 use Rattle.fk_meaning.specs.Schedule.{Schedule, IsLawful, run, stand_of}
@@ -12,7 +13,7 @@ use Rattle.fk_replay_text.specs.declared.fault.ReplayFault.TheVariants.{Memory}
 use Rattle.fk_replay.specs.declared.end.Replayed.{Replayed}
 use Rattle.fk_replay.specs.Answers.{IsNotPossible, IsPassedOver}
 use Rattle.fk_replay.specs.Replay.{stand_in}
-use Rattle.fk_compile.specs.Faithful.{firsts_by, words_by}
+use Rattle.fk_compile.specs.Faithful.{firsts_by, in_image, words_by}
 use Rattle.fk_trace_laws.specs.Program.{first, next_of, setting}
 
 module _ {W : Type 0} (next : W → Option (Step W)) (setting : Setting) (opening : State W)
@@ -40,3 +41,7 @@ IsAnswerFor program facts input p =
     let firsts = firsts_by program facts in
     Answers (next_of tables program words firsts input p)
     (setting tables program words firsts input p) (first tables program words firsts input p)
+
+-- the kinds, lines and columns of the program's operations, by their numbers
+abbrev pub sites_by : ProgramTree → Facts → List (ℕ × ℕ × ℕ)
+sites_by program facts = map in_image (sites_of (tables_by program facts) program)

@@ -1,12 +1,14 @@
 //! A text that can be replayed.
 
-ghost use Rattle.std.specs.Prelude.{IfErr, IfOk};
+ghost use Rattle.std.specs.Prelude.{◌≡◌, IfErr, IfOk, length, slice_get};
 ghost use Rattle.fk_syntax.specs.ProgramView.{program_of};
 ghost use Rattle.fk_layout.specs.Layout.{IsLayout, tables_by};
 ghost use Rattle.fk_layout.specs.Refusal.{Fits};
 ghost use Rattle.fk_compile_text.specs.Refusal.{IsRefusedText};
 ghost use Rattle.fk_compile_text.specs.Text.{IsChecked};
+ghost use Rattle.fk_compile.specs.Faithful.{words_by};
 ghost use Rattle.fk_compile.specs.Lists.{HasListOf};
+ghost use Rattle.fk_replay_source.specs.Answer.{sites_by};
 
 use fk_compile::{List, list_of};
 use fk_compile_text::{Built, Refusal, built_text};
@@ -17,6 +19,29 @@ use std::alloc::Global;
 pub struct Listed<'a> {
     pub text: Built<'a>,
     pub list: List,
+}
+
+impl<'a> Listed<'a> {
+    /// The number of the words of its shared variables of file scope.
+    pub fn globals(&self) -> usize
+        requires { IsLayout (program_of self.now.text.tree) self.now.text.facts
+            self.now.text.layout }
+        ensures { result
+            ≡ length (words_by (program_of self.now.text.tree) self.now.text.facts) }
+    {
+        self.text.layout.words.len()
+    }
+
+    /// The kind, the line and the column of the operation of this number, if there is one.
+    pub fn site(&self, number: u32) -> Option<(u32, u32, u32)>
+        requires { IsLayout (program_of self.now.text.tree) self.now.text.facts
+            self.now.text.layout }
+        ensures { result
+            ≡ slice_get (sites_by (program_of self.now.text.tree) self.now.text.facts) number }
+    {
+        let site = self.text.layout.sites.get(number as usize)?;
+        Some((u32::from(site.kind), site.place.line, site.place.column))
+    }
 }
 
 /// A text with its flat list.

@@ -17,6 +17,7 @@ mod machine_run;
 mod reading;
 mod reason;
 mod refused;
+mod replay;
 mod report;
 mod run;
 mod shown;
