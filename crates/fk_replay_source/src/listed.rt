@@ -1,6 +1,7 @@
 //! A text that can be replayed.
 
-ghost use Rattle.std.specs.Prelude.{◌≡◌, IfErr, IfOk, length, slice_get};
+ghost use Rattle.std.specs.Prelude.{◌≡◌, ◌<◌, ◌^◌, ◌≤◌, IfErr, IfOk, OnOk, length, slice_get};
+ghost use Rattle.fk_num.specs.Limits.{most_text_bytes};
 ghost use Rattle.fk_syntax.specs.ProgramView.{program_of};
 ghost use Rattle.fk_layout.specs.Layout.{IsLayout, tables_by};
 ghost use Rattle.fk_layout.specs.Refusal.{Fits};
@@ -8,6 +9,7 @@ ghost use Rattle.fk_compile_text.specs.Refusal.{IsRefusedText};
 ghost use Rattle.fk_compile_text.specs.Text.{IsChecked};
 ghost use Rattle.fk_compile.specs.Faithful.{words_by};
 ghost use Rattle.fk_compile.specs.Lists.{HasListOf};
+ghost use Rattle.fk_replay_lists.specs.Lists.{CanBeReplayed};
 ghost use Rattle.fk_replay_source.specs.Answer.{sites_by};
 
 use fk_compile::{List, list_of};
@@ -58,6 +60,9 @@ pub fn listed_text<'a>(alloc: Global, source: &'a [u8]) -> Result<Listed<'a>, Re
         (program_of l.text.tree).items) }
     ensures list { IfOk result (λ l. HasListOf (tables_by (program_of l.text.tree) l.text.facts)
         (program_of l.text.tree) l.list.ops.items l.list.main) }
+    ensures small { IfOk result (λ l. length l.list.ops.items < 2 ^ 32) }
+    ensures replayable { IfOk result (λ l. CanBeReplayed l.list.ops.items l.list.main) }
+    ensures short { OnOk result (length source.now ≤ most_text_bytes) }
     ensures refused { IfErr result (IsRefusedText source.now) }
 {
     let text = built_text(alloc, source)?;

@@ -1,13 +1,12 @@
 //! The replay of a program.
 
-ghost use Rattle.std.specs.Prelude.{ℕ, List as Numbers, ◌+◌, ◌≤◌, length};
+ghost use Rattle.std.specs.Prelude.{◌+◌, ◌<◌, ◌≤◌, ◌^◌, length};
 ghost use Rattle.fk_num.specs.Limits.{most_data_words};
 ghost use Rattle.fk_syntax.specs.ProgramView.{program_of};
 ghost use Rattle.fk_layout.specs.Layout.{IsLayout, tables_by};
-ghost use Rattle.fk_layout.specs.Refusal.{Fits};
-ghost use Rattle.fk_compile_text.specs.Text.{IsChecked};
 ghost use Rattle.fk_compile.specs.Faithful.{words_by};
 ghost use Rattle.fk_compile.specs.Lists.{HasListOf};
+ghost use Rattle.fk_replay_lists.specs.Lists.{CanBeReplayed};
 ghost use Rattle.fk_replay.specs.Replay.{IsOfText, schedule_in};
 ghost use Rattle.fk_replay_source.specs.Answer.{IsAnswerFor};
 
@@ -29,15 +28,12 @@ pub fn replay(
     input: &[u32],
     trace: &Trace,
 ) -> Result<Replayed, ReplayFault>
-    requires checked { (source : Numbers ℕ)
-        × IsChecked source (program_of listed.now.text.tree) listed.now.text.facts }
     requires laid { IsLayout (program_of listed.now.text.tree) listed.now.text.facts
         listed.now.text.layout }
-    requires fits { Fits (tables_by (program_of listed.now.text.tree) listed.now.text.facts)
-        (program_of listed.now.text.tree).items }
     requires list { HasListOf (tables_by (program_of listed.now.text.tree) listed.now.text.facts)
         (program_of listed.now.text.tree) listed.now.list.ops.items listed.now.list.main }
-    requires few { length input.now ≤ 65536 }
+    requires small { length listed.now.list.ops.items < 2 ^ 32 }
+    requires replayable { CanBeReplayed listed.now.list.ops.items listed.now.list.main }
     requires room { length (words_by (program_of listed.now.text.tree) listed.now.text.facts)
         + length input.now
         ≤ most_data_words }

@@ -1,11 +1,12 @@
 //! The outcome of replaying a trace.
 
-ghost use Rattle.std.specs.Prelude.{◌≡◌, ◌⊎◌, ℕ, List, IfOk};
+ghost use Rattle.std.specs.Prelude.{◌≡◌, ◌⊎◌, ◌<◌, ◌≤◌, ◌^◌, IfOk, length};
+ghost use Rattle.fk_num.specs.Limits.{most_data_words};
 ghost use Rattle.fk_syntax.specs.ProgramView.{program_of};
 ghost use Rattle.fk_layout.specs.Layout.{IsLayout, tables_by};
-ghost use Rattle.fk_layout.specs.Refusal.{Fits};
-ghost use Rattle.fk_compile_text.specs.Text.{IsChecked};
+ghost use Rattle.fk_compile.specs.Faithful.{words_by};
 ghost use Rattle.fk_compile.specs.Lists.{HasListOf};
+ghost use Rattle.fk_replay_lists.specs.Lists.{CanBeReplayed};
 ghost use Rattle.fk_top.specs.Ending.{outcome_of};
 ghost use Rattle.fk_top.specs.Outcome.{EndsReplay, RefusesSource, ReplaysSource, replay_report};
 ghost use Rattle.fk_top.specs.Outcome.{replay_status, replayed, sites_by};
@@ -44,14 +45,14 @@ fn replay_listed<'a>(
     bytes: &[u8],
     text: &[u8],
 ) -> Result<Ending<'a>, AllocError>
-    requires checked { (source : List ℕ)
-        × IsChecked source (program_of listed.now.text.tree) listed.now.text.facts }
     requires laid { IsLayout (program_of listed.now.text.tree) listed.now.text.facts
         listed.now.text.layout }
-    requires fits { Fits (tables_by (program_of listed.now.text.tree) listed.now.text.facts)
-        (program_of listed.now.text.tree).items }
     requires list { HasListOf (tables_by (program_of listed.now.text.tree) listed.now.text.facts)
         (program_of listed.now.text.tree) listed.now.list.ops.items listed.now.list.main }
+    requires small { length listed.now.list.ops.items < 2 ^ 32 }
+    requires replayable { CanBeReplayed listed.now.list.ops.items listed.now.list.main }
+    requires few { length (words_by (program_of listed.now.text.tree) listed.now.text.facts)
+        ≤ most_data_words }
     ensures { IfOk result (λ e. EndsReplay (program_of listed.now.text.tree) listed.now.text.facts
         bytes.now text.now (outcome_of e)) }
 {
