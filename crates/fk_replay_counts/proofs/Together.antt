@@ -2,7 +2,7 @@
 use Rattle.std.proofs.Common.{◌≡◌, ◌≢◌, ℕ, zero, suc, ◌+◌, ◌<◌, ◌==◌, ◌&&◌, Bool, true, false, true≢false, List, [], ◌∷◌, length, slice_get, Option, Some, None, is_some, is_none, refl, sym, ap, ap₂, ◌∙◌, subst, subst₂, arith, if◌then◌else◌}
 use Rattle.std.specs.Prelude.{slice_index}
 use Rattle.std.specs.List.{list_all}
-use Rattle.std.proofs.lemmas.Bool.{and_parts, and_from, eq-eqb}
+use Rattle.std.proofs.lemmas.Bool.{and_parts, and_from, eqb-true, eq-eqb}
 use Rattle.fk_tree.specs.declared.node.Kind.{Kind}
 use Rattle.fk_tree.specs.declared.node.Kind.TheVariants.{Lockstep}
 use Rattle.fk_tree.specs.Tree as t
@@ -13,6 +13,7 @@ use Rattle.fk_tree.proofs.Turns.{leaf_by, idle-lockstep}
 use Rattle.fk_meaning_operation.specs.declared.kinds.Joint.{Joint}
 use Rattle.fk_meaning.specs.Processor.{Setting}
 use Rattle.fk_meaning.specs.Round.{Step, Runner, State, Round, joint_at, fits_kind, fits, all_fit, after_one, after_locals, begin_all, result, is_local_next, are_local, may_act, all_may_act, is_allowed, is_possible}
+use Rattle.fk_meaning.specs.Schedule.{Schedule, run}
 use Rattle.fk_lockstep.specs.OneProgram.{HaveOneProgram}
 use Rattle.fk_lockstep.proofs.Round.{at_below}
 use Rattle.fk_replay_counts.proofs.Quiet.{AreQuiet, advanced, gone_on, quiet_result}
@@ -146,6 +147,35 @@ module _ {W : Type 0} (next : W → Option (Step W)) (set : Setting) where
         after = after;
         at = λ h r has there. advance_at ms 0 h s.runners r there has;
       }
+
+  -- one processor alone does local operations
+  lone_local : (rs : List (Runner W)) (h : ℕ) (r : Runner W) → slice_get rs h ≡ Some r → is_local_next (next r.left) ≡ true → AllLocal (h ∷ []) 0 rs
+  lone_local rs h r at local i q there is =
+      let same : i ≡ h = eqb-true i h (or_none (i == h) is) in
+      let q_is : q ≡ r = some_same q r (sym there ∙ ap (slice_get rs) same ∙ at) in
+      subst (λ (x : Runner W). is_local_next (next x.left) ≡ true) (sym q_is) local
+    where
+      some_same : (x y : Runner W) → Some x ≡ Some y → x ≡ y
+      some_same x y e = cc
+
+      or_none : (b : Bool) → (b || false) ≡ true → b ≡ true
+      or_none true e = refl
+      or_none false e = e
+
+  pub record LoneRun (count : ℕ) (s : State W) (h : ℕ) (r : Runner W) : Type 0 where
+    pub schedule : Schedule
+    pub after : slice_get (run next set schedule s).runners h ≡ Some (after_locals next set count r)
+
+  pub lone : (count : ℕ) (s : State W) (h : ℕ) (r : Runner W) → slice_get s.runners h ≡ Some r → are_local next set count r ≡ true → LoneRun count s h r
+  lone zero s h r at e = record { schedule = []; after = at }
+  lone (suc c) s h r at e =
+      let parts = and_parts (is_local_next (next r.left)) (are_local next set c (after_one next set r)) e in
+      let round = turns (h ∷ []) 0 s.runners in
+      let goes_on = quiet_result next set round s (turns_quiet (h ∷ []) 0 s.runners (lone_local s.runners h r at parts.0)) in
+      let there = advance_at (h ∷ []) 0 h s.runners r at (ap (λ (b : Bool). b || false) (eq-eqb h h refl)) in
+      let more = lone c (result next set round s) h (after_one next set r)
+      (ap (λ (u : State W). slice_get u.runners h) goes_on ∙ there) parts.1 in
+      record { schedule = round ∷ more.schedule; after = more.after }
 
   -- what is known of the states of a run
   module _ (Reached : State W → Type 0)
