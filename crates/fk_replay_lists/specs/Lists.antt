@@ -6,7 +6,6 @@ use Rattle.fk_syntax.specs.Program.{ProgramTree}
 use Rattle.fk_layout.specs.Layout.{tables_by}
 use Rattle.fk_core.specs.declared.op.CoreOp.{CoreOp}
 use Rattle.fk_lockstep_frames.specs.Lists.{HasLocalFrames}
-use Rattle.fk_lockstep_tree.specs.Lists.{HasOwnSites}
 use Rattle.fk_sim_block.specs.Lists.{AlwaysMay}
 use Rattle.fk_lower_laws.specs.Laws.{count_of_file}
 use Rattle.fk_replay.specs.Replay.{IsOrderly, IsSafe}
@@ -31,5 +30,4 @@ abbrev pub ListsCanBeReplayed : Type 0
 ListsCanBeReplayed =
     (program : ProgramTree) (facts : Facts) → IsLaidOut program facts
     → (core : List CoreOp) (main : ℕ) → HasListOf (tables_by program facts) program core main
-    → HasOwnSites core → IsGrouped core main (count_of_file program facts)
-    → CanBeReplayed core main
+    → IsGrouped core main (count_of_file program facts) → CanBeReplayed core main
