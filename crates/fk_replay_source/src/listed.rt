@@ -1,7 +1,7 @@
 //! A text that can be replayed.
 
 ghost use Rattle.std.specs.Prelude.{◌≡◌, ◌<◌, ◌^◌, ◌≤◌, IfErr, IfOk, OnOk, length, slice_get};
-ghost use Rattle.fk_num.specs.Limits.{most_text_bytes};
+ghost use Rattle.fk_num.specs.Limits.{most_data_words, most_text_bytes};
 ghost use Rattle.fk_syntax.specs.ProgramView.{program_of};
 ghost use Rattle.fk_layout.specs.Layout.{IsLayout, tables_by};
 ghost use Rattle.fk_layout.specs.Refusal.{Fits};
@@ -61,6 +61,8 @@ pub fn listed_text<'a>(alloc: Global, source: &'a [u8]) -> Result<Listed<'a>, Re
     ensures list { IfOk result (λ l. HasListOf (tables_by (program_of l.text.tree) l.text.facts)
         (program_of l.text.tree) l.list.ops.items l.list.main) }
     ensures small { IfOk result (λ l. length l.list.ops.items < 2 ^ 32) }
+    ensures few { IfOk result (λ l. length (words_by (program_of l.text.tree) l.text.facts)
+        ≤ most_data_words) }
     ensures replayable { IfOk result (λ l. CanBeReplayed l.list.ops.items l.list.main) }
     ensures short { OnOk result (length source.now ≤ most_text_bytes) }
     ensures refused { IfErr result (IsRefusedText source.now) }
