@@ -184,15 +184,15 @@ data Given (word : Text) : Type 0 where
   is_dashes : word ≡ 45 ∷ 45 ∷ [] → Given word
   is_file : IsPlain word → Given word
 
-given : (h : Held) (position : ℕ) (word : Text) → IsUtf8 word → turn_fault replay [] (state h position false) word ≡ [] → Form word → Given word
+given : (rows : List Row) (pending : Option (Text × List Text)) (position : ℕ) (word : Text) → IsUtf8 word → turn_fault replay [] (state (record { rows = rows; pending = pending; skip = 0 }) position false) word ≡ [] → Form word → Given word
 unfolding flags_fault
-given h position word utf8 fine (dashes is) = is_dashes is
-given h position word utf8 fine (plain is) = is_file is
-given h position word utf8 fine (long name value is) =
+given rows pending position word utf8 fine (dashes is) = is_dashes is
+given rows pending position word utf8 fine (plain is) = is_file is
+given rows pending position word utf8 fine (long name value is) =
     let some = is.some in
     let text = is.long in
     let bad : UnknownArgument ∷ [] ≡ [] = rw (some, text) at fine in cc
-given h position word utf8 fine (short first rest is) =
+given rows pending position word utf8 fine (short first rest is) =
     let some = is.some in
     let text = is.long in
     let letters = is.short in
@@ -266,7 +266,7 @@ last_behind file other (word ∷ words) fine = absurd (third_behind file other w
 took_none : (file other : Text) (words : List Text) → AreTexts words → shape_fault replay (two file other false) words ≡ [] → FileWords words []
 took_none file other [] texts fine = no_more
 took_none file other (word ∷ words) texts fine =
-    by (given _ 3 word texts.0 (turn_of (two file other false) word words fine) (form word))
+    by (given _ _ 3 word texts.0 (turn_of (two file other false) word words fine) (form word))
   where
     by : Given word → FileWords (word ∷ words) []
     by (is_file is) = absurd (third file other word is (turn_of (two file other false) word words fine))
@@ -289,7 +289,7 @@ one_behind file (word ∷ words) fine =
 took_one : (file : Text) (words : List Text) → AreTexts words → shape_fault replay (one file false) words ≡ [] → EndsWith words
 took_one file [] texts fine = absurd (no_trace file false fine)
 took_one file (word ∷ words) texts fine =
-    by (given _ 2 word texts.0 (turn_of (one file false) word words fine) (form word))
+    by (given _ _ 2 word texts.0 (turn_of (one file false) word words fine) (form word))
   where
     by : Given word → EndsWith (word ∷ words)
     by (is_file is) =
@@ -316,7 +316,7 @@ two_behind (word ∷ words) fine =
 pub took_two : (words : List Text) → AreTexts words → shape_fault replay (none false) words ≡ [] → AreTwo words
 took_two [] texts fine = absurd (no_file false fine)
 took_two (word ∷ words) texts fine =
-    by (given _ 1 word texts.0 (turn_of (none false) word words fine) (form word))
+    by (given _ _ 1 word texts.0 (turn_of (none false) word words fine) (form word))
   where
     by : Given word → AreTwo (word ∷ words)
     by (is_file is) =

@@ -39,6 +39,7 @@ start = at [] None false false
 record IsNamed (name : Text) (s : Shape) : Type 0 where
   labelled : find (answers_to name) (names_of app) ≡ Some (name, [])
   entered : find (λ s. answers_to name (label_of s)) app.subs ≡ Some s
+  same_name : s.name ≡ name
   no_help : (bytes_eq name (codes "help") && false) ≡ false
 
 -- what the words behind the name of a command come to
@@ -85,7 +86,7 @@ module _ (name : Text) (s : Shape) (is : IsNamed name s) (words : List Text) whe
   rows-behind : subcommand_of written_app (name ∷ words) ≡ Some (name, shape_rows s start words)
   rows-behind =
       let found = is.entered in
-      ap (λ (w : Walk). entered app w.stopped) walk-is ∙ rw found refl
+      ap (λ (w : Walk). entered app w.stopped) walk-is ∙ rw found (ap (λ (n : Text). Some (n, shape_rows s start words)) is.same_name)
 
   shape_behind : BehindShape name s words
   shape_behind = record { fault = fault-behind; rows_are = rows-behind }
@@ -94,37 +95,37 @@ behind : (name : Text) (ps : List Part) → IsNamed name (command name ps) → (
 behind name ps is words = let b = shape_behind name (command name ps) is words in record { fault = b.fault; rows_are = b.rows_are }
 
 pub behind_run : (words : List Text) → Behind (codes "run") run_parts words
-behind_run words = behind (codes "run") run_parts (record { labelled = refl; entered = refl; no_help = refl }) words
+behind_run words = behind (codes "run") run_parts (record { labelled = refl; entered = refl; same_name = refl; no_help = refl }) words
 
 pub behind_build : (words : List Text) → Behind (codes "build") put_parts words
-behind_build words = behind (codes "build") put_parts (record { labelled = refl; entered = refl; no_help = refl }) words
+behind_build words = behind (codes "build") put_parts (record { labelled = refl; entered = refl; same_name = refl; no_help = refl }) words
 
 pub behind_exec : (words : List Text) → Behind (codes "exec") exec_parts words
-behind_exec words = behind (codes "exec") exec_parts (record { labelled = refl; entered = refl; no_help = refl }) words
+behind_exec words = behind (codes "exec") exec_parts (record { labelled = refl; entered = refl; same_name = refl; no_help = refl }) words
 
 pub behind_list : (words : List Text) → Behind (codes "list") list_parts words
-behind_list words = behind (codes "list") list_parts (record { labelled = refl; entered = refl; no_help = refl }) words
+behind_list words = behind (codes "list") list_parts (record { labelled = refl; entered = refl; same_name = refl; no_help = refl }) words
 
 pub behind_elf : (words : List Text) → Behind (codes "elf") put_parts words
-behind_elf words = behind (codes "elf") put_parts (record { labelled = refl; entered = refl; no_help = refl }) words
+behind_elf words = behind (codes "elf") put_parts (record { labelled = refl; entered = refl; same_name = refl; no_help = refl }) words
 
 pub behind_unelf : (words : List Text) → Behind (codes "unelf") put_parts words
-behind_unelf words = behind (codes "unelf") put_parts (record { labelled = refl; entered = refl; no_help = refl }) words
+behind_unelf words = behind (codes "unelf") put_parts (record { labelled = refl; entered = refl; same_name = refl; no_help = refl }) words
 
 pub behind_audit : (words : List Text) → Behind (codes "audit") exec_parts words
-behind_audit words = behind (codes "audit") exec_parts (record { labelled = refl; entered = refl; no_help = refl }) words
+behind_audit words = behind (codes "audit") exec_parts (record { labelled = refl; entered = refl; same_name = refl; no_help = refl }) words
 
 pub behind_trace : (words : List Text) → Behind (codes "trace") exec_parts words
-behind_trace words = behind (codes "trace") exec_parts (record { labelled = refl; entered = refl; no_help = refl }) words
+behind_trace words = behind (codes "trace") exec_parts (record { labelled = refl; entered = refl; same_name = refl; no_help = refl }) words
 
 pub behind_replay : (words : List Text) → BehindShape (codes "replay") replay words
-behind_replay words = shape_behind (codes "replay") replay (record { labelled = refl; entered = refl; no_help = refl }) words
+behind_replay words = shape_behind (codes "replay") replay (record { labelled = refl; entered = refl; same_name = refl; no_help = refl }) words
 
 pub behind_selftest : (words : List Text) → Behind (codes "selftest") list_parts words
-behind_selftest words = behind (codes "selftest") list_parts (record { labelled = refl; entered = refl; no_help = refl }) words
+behind_selftest words = behind (codes "selftest") list_parts (record { labelled = refl; entered = refl; same_name = refl; no_help = refl }) words
 
 pub behind_locks : (words : List Text) → Behind (codes "locks") [] words
-behind_locks words = behind (codes "locks") [] (record { labelled = refl; entered = refl; no_help = refl }) words
+behind_locks words = behind (codes "locks") [] (record { labelled = refl; entered = refl; same_name = refl; no_help = refl }) words
 
 -- ---- other first words
 
