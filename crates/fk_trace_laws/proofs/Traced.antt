@@ -55,15 +55,16 @@ module _ (tables : Tables) (program : ProgramTree) (words firsts : List ℕ) (im
     prints : printed_by tables program words firsts input p schedule ≡ output_of image input p n
     agrees : StandsAgree (machine image input p n).stand (stand_by tables program words firsts input p schedule)
 
+  -- the same, with the globals of the image as the initial words
+  record EndsBy (globals : List ℕ) : Type 0 where
+    prints : (run (next_in tables program) (setting_of p globals input) (rounds image input p n) (program_opening tables program words firsts input p)).store.output ≡ output_of image input p n
+    agrees : StandsAgree (machine image input p n).stand (stand_of (next_in tables program) (setting_of p globals input) (run (next_in tables program) (setting_of p globals input) (rounds image input p n) (program_opening tables program words firsts input p)))
+
   carries : image.globals.items ≡ words → Follows (next_in tables program) image input p n (program_opening tables program words firsts input p) → Carries (rounds image input p n)
   carries globals follows =
       let law = subst (λ (ws : List ℕ). IsLawful (next_in tables program) (setting_of p ws input) (rounds image input p n) (program_opening tables program words firsts input p)) globals follows.lawful in
       let ends = subst (λ (ws : List ℕ). EndsBy ws) globals (record { prints = sym follows.agrees.output; agrees = follows.agrees.stand }) in
       record { lawful = law; prints = ends.prints; agrees = ends.agrees }
-    where
-      record EndsBy (globals : List ℕ) : Type 0 where
-        prints : (run (next_in tables program) (setting_of p globals input) (rounds image input p n) (program_opening tables program words firsts input p)).store.output ≡ output_of image input p n
-        agrees : StandsAgree (machine image input p n).stand (stand_of (next_in tables program) (setting_of p globals input) (run (next_in tables program) (setting_of p globals input) (rounds image input p n) (program_opening tables program words firsts input p)))
 
   is_lawful : image.globals.items ≡ words → Follows (next_in tables program) image input p n (program_opening tables program words firsts input p)
       → rounds image input p n ≡ schedule_of p (moments_of (told_from 1 (cycles image input p n))) (length (cycles image input p n))
