@@ -42,3 +42,15 @@ TraceIsLawful =
     (firsts_by program facts) input p
     (trace_of n (machine_opening image input p)) (machine image input p n).begun
     (output_of image input p n) (machine image input p n).stand
+
+-- Two traces of one text are the same.
+pub record IsSameTrace (harts other cycles more : ℕ) (lines rest : List Told) : Type 0 where
+  pub harts : harts ≡ other
+  pub cycles : cycles ≡ more
+  pub lines : lines ≡ rest
+
+abbrev pub TextsTellOneTrace : Type 0
+TextsTellOneTrace =
+    (text : List ℕ) (harts other cycles more : ℕ) (lines rest : List Told)
+    → IsTrace harts cycles lines text → IsTrace other more rest text
+    → IsSameTrace harts other cycles more lines rest
