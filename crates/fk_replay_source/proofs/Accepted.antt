@@ -14,7 +14,7 @@ use Rattle.fk_replay_text.specs.declared.fault.ReplayFault.{ReplayFault}
 use Rattle.fk_replay_text.specs.declared.fault.ReplayFault.TheVariants.{BadTrace, NotPossible, Pace, Memory}
 use Rattle.fk_replay.specs.declared.end.Replayed.{Replayed}
 use Rattle.fk_replay.specs.Replay.{stand_in}
-use Rattle.fk_replay.proofs.Lawful.{lawful_schedules_have_no_fault}
+use Rattle.fk_replay.proofs.Lawful.{no_fault}
 use Rattle.fk_sim_rounds.specs.Follows.{StandsAgree}
 use Rattle.fk_compile.specs.Faithful.{firsts_by, words_by}
 use Rattle.fk_trace_laws.specs.Program.{first, next_of, setting}
@@ -28,10 +28,10 @@ accepted : {W : Type 0} (next : W → Option (Step W)) (set : Setting) (opening 
     → (run next set schedule opening).store.output ≡ output → StandsAgree stand (stand_of next set (run next set schedule opening)) → (answer : Result Replayed ReplayFault) → Answers next set opening schedule answer
     → IsAcceptedWith output stand answer
 accepted next set opening schedule output stand lawful prints agrees (Ok run) is = (is.output ∙ prints, subst (λ (s : SourceStand). StandsAgree stand s) (sym is.stand) agrees)
-accepted {W} next set opening schedule output stand lawful prints agrees (Err (NotPossible round)) is =
-    absurd ((lawful_schedules_have_no_fault W next set schedule opening lawful).none_bad round is.bad)
-accepted {W} next set opening schedule output stand lawful prints agrees (Err (Pace round processor)) is =
-    absurd ((lawful_schedules_have_no_fault W next set schedule opening lawful).none_late round processor is.late)
+accepted next set opening schedule output stand lawful prints agrees (Err (NotPossible round)) is =
+    absurd ((no_fault next set schedule opening lawful).none_bad round is.bad)
+accepted next set opening schedule output stand lawful prints agrees (Err (Pace round processor)) is =
+    absurd ((no_fault next set schedule opening lawful).none_late round processor is.late)
 accepted next set opening schedule output stand lawful prints agrees (Err (BadTrace line)) is = absurd is
 accepted next set opening schedule output stand lawful prints agrees (Err Memory) is = tt
 
