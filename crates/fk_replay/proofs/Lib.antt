@@ -1,3 +1,8 @@
 pub mod Ends
 pub mod Landing
 pub mod Lawful
+pub mod Present
+pub mod Sparse
+pub mod Begins
+pub mod Own
+pub mod Requests

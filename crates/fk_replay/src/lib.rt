@@ -4,17 +4,23 @@
 //! and how the run ends.
 #![tactic(auto)]
 
+mod able;
+mod acting;
+mod actor;
 mod end;
+mod fits;
 mod group;
 pub mod laws;
 mod list;
 mod local;
 mod pace;
+mod phases;
 mod replay;
 mod request;
-mod round;
+mod rounds;
 mod run;
 mod runner;
+mod steps;
 #[cfg(test)]
 mod tests;
 mod values;

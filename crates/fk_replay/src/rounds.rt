@@ -1,0 +1,64 @@
+//! Rounds.
+
+use crate::able::forget_all;
+use crate::acting::{dismiss, enlist};
+use crate::phases::{Fault, begin_all, do_requests};
+use crate::run::Run;
+use crate::steps::{change_all, settle_all};
+use fk_core::CoreOp;
+use fk_replay_text::Acts;
+use std::alloc::AllocError;
+
+/// What a round is.
+#[derive(Clone, Copy)]
+pub(crate) enum Outcome {
+    Possible,
+    /// It is stopped, by a fault.
+    Stopped(Fault),
+    NotPossible,
+}
+
+impl Run {
+    /// Does a round. After one that isn't possible the state is of no use.
+    pub(crate) fn take_round(
+        &mut self,
+        ops: &[CoreOp],
+        acts: &[Acts],
+    ) -> Result<Outcome, AllocError> {
+        enlist(&self.tree, acts, &mut self.counts, &mut self.acting)?;
+        let begun = begin_all(self.setting, ops, &self.acting, &self.counts, &mut self.actors)?;
+        if !begun {
+            return Ok(Outcome::NotPossible);
+        }
+        let (acting, actors) = (&self.acting, &mut self.actors);
+        match do_requests(self.alloc, ops, acting, &mut self.store, actors)? {
+            Some(fault) => Ok(self.stop(ops, fault)),
+            None => self.step(ops),
+        }
+    }
+
+    /// A round with a fault is stopped, or not possible.
+    fn stop(&self, ops: &[CoreOp], fault: Fault) -> Outcome {
+        let is_last = self
+            .acting
+            .last()
+            .is_some_and(|acting| acting.number == fault.processor);
+        if is_last && self.all_fit(ops, fault.processor) {
+            Outcome::Stopped(fault)
+        } else {
+            Outcome::NotPossible
+        }
+    }
+
+    /// A round without a fault is possible if all who act fit together. They do their steps.
+    fn step(&mut self, ops: &[CoreOp]) -> Result<Outcome, AllocError> {
+        if !self.all_fit(ops, u32::MAX) {
+            return Ok(Outcome::NotPossible);
+        }
+        change_all(self.alloc, &self.acting, &self.actors, &mut self.tree)?;
+        forget_all(&self.acting, &self.actors, &mut self.arrived);
+        settle_all(ops, &self.acting, &self.tree, &mut self.actors)?;
+        dismiss(&self.acting, &mut self.counts);
+        Ok(Outcome::Possible)
+    }
+}
