@@ -1,5 +1,3 @@
 pub mod Answers
 pub mod Laws
-pub mod Steps
-pub mod Served
 pub mod Replay

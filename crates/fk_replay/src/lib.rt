@@ -5,19 +5,13 @@
 #![tactic(auto)]
 
 mod end;
-mod group;
 pub mod laws;
-mod list;
-mod local;
-mod pace;
+mod modes;
 mod replay;
-mod request;
 mod round;
 mod run;
-mod runner;
 #[cfg(test)]
 mod tests;
-mod values;
 
 pub use end::{End, Replayed};
 pub use fk_replay_text::{Acts, Moment, ReplayFault, Trace, read_trace};

@@ -1,16 +1,13 @@
 //! Rounds.
 
-use crate::group::{
-    does, enters, goes_onward, has_room, mode_after, not_negative, part, parts, stays,
-};
-use crate::list::Due;
-use crate::local::{do_local, is_onward};
-use crate::request::do_request;
+use crate::modes::{enters, mode_after};
 use crate::run::{Acting, Arrived, Run, joint_of};
-use crate::runner::{Mode, class_of};
-use crate::values::last;
 use fk_core::CoreOp;
 use fk_meaning_operation::{Class, Joint, Operation};
+use fk_replay_steps::{
+    Due, Mode, class_of, do_local, do_request, does, goes_onward, has_room, is_onward, last,
+    not_negative, part, parts, stays,
+};
 use fk_replay_text::Acts;
 use std::alloc::AllocError;
 

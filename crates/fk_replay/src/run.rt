@@ -1,12 +1,10 @@
 //! The state of a run.
 
-use crate::list::Due;
-use crate::pace::Pace;
-use crate::runner::{Mode, Runner};
 use fk_core::CoreOp;
 use fk_meaning_operation::{Joint, Operation};
 use fk_meaning_state::{Processor, Setting};
 use fk_meaning_store::Store32;
+use fk_replay_steps::{Due, Mode, Pace, Runner};
 use fk_tree::Tree;
 use std::alloc::{AllocError, Global};
 
