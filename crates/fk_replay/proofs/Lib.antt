@@ -1,5 +1,3 @@
-pub mod Ends
-pub mod Landing
 pub mod Lawful
 pub mod Present
 pub mod Sparse

@@ -18,8 +18,8 @@ use Rattle.fk_replay.specs.declared.end.End.{End}
 use Rattle.fk_replay.specs.declared.end.End.TheVariants.{Running, Finished, Faulted}
 use Rattle.fk_replay.specs.declared.end.Replayed.{Replayed}
 use Rattle.fk_replay.specs.Answers.{IsNotPossible, IsPassedOver}
-use Rattle.fk_replay.specs.Served.{CanAsk}
-use Rattle.fk_replay.specs.Steps.{GivesBack}
+use Rattle.fk_replay_steps.specs.Served.{CanAsk}
+use Rattle.fk_replay_steps.specs.Steps.{GivesBack}
 
 abbrev pub stand_in : End → SourceStand
 stand_in Running = SourceRunning

@@ -1,17 +1,11 @@
 //! The state of a run.
 
-ghost use Rattle.std.specs.Prelude.{◌≡◌};
-ghost use Rattle.fk_meaning_operation.specs.Kinds as kinds;
-
-use crate::acting::Acting;
-use crate::actor::Actor;
-use crate::list::Due;
-use crate::pace::Pace;
-use crate::runner::{Mode, Runner};
 use fk_core::CoreOp;
-use fk_meaning_operation::{Joint, Operation};
 use fk_meaning_state::{Processor, Setting};
 use fk_meaning_store::Store32;
+use fk_replay_phases::{Acting, Actor};
+use fk_replay_rounds::Mode;
+use fk_replay_steps::{Due, Pace, Runner};
 use fk_tree::Tree;
 use std::alloc::{AllocError, Global};
 
@@ -40,19 +34,6 @@ pub(crate) struct Run {
     pub(crate) arrived: Vec<Arrived>,
 }
 
-/// What those who do an operation do together.
-pub(crate) fn joint_of(operation: Operation) -> Joint
-    ensures { result ≡ kinds.joint_of operation }
-{
-    match operation {
-        Operation::Begin => Joint::Starting,
-        Operation::Meet(false) => Joint::AtBarrier,
-        Operation::Meet(true) => Joint::Closing,
-        Operation::Resume => Joint::Resuming,
-        _ => Joint::Alone,
-    }
-}
-
 /// A processor at the beginning of `main`.
 fn first_actor(
     alloc: Global,
@@ -65,9 +46,9 @@ fn first_actor(
         runner: Runner {
             at: main,
             returns: Vec::new(alloc),
-            mode: Mode::Apart,
             processor: Processor::first(alloc, setting, firsts, number)?,
         },
+        mode: Mode::Apart,
         taken: None,
     })
 }
@@ -129,7 +110,7 @@ impl Run {
     }
 
     pub(crate) fn mode(&self, processor: u32) -> Mode {
-        self.actors[processor as usize].runner.mode
+        self.actors[processor as usize].mode
     }
 
     /// Whether no processor has anything left to do.

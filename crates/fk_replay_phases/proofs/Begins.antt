@@ -6,16 +6,16 @@ use Rattle.fk_meaning.specs.Round as rounds
 use Rattle.fk_meaning.specs.Round.{Round, may_act, all_may_act, asking, is_local_next, are_local, after_one, after_locals}
 use Rattle.fk_core.specs.declared.op.CoreOp.{CoreOp}
 use Rattle.fk_core.specs.Next.{Position, next}
-use Rattle.fk_replay.specs.Steps.{step_at, callers_of, runner_of}
-use Rattle.fk_replay.specs.Safe.{IsAbout, IsSafeRunner, AreSafe}
-use Rattle.fk_replay.specs.Present.{present, numbers_of}
-use Rattle.fk_replay.specs.Actors.{IsDue, AreDue, acting_of, actings_of, runners_of, modes_of, asked, BeganAs, HasBegun, HaveBegun, HaveNone, HasDoneOne, HasDoneLocals}
-use Rattle.fk_replay.specs.declared.acting.Acting.{Acting}
-use Rattle.fk_replay.specs.declared.actor.Actor.{Actor}
-use Rattle.fk_replay.specs.declared.list.Due.{Due}
-use Rattle.fk_replay.specs.declared.runner.Runner.{Runner}
-use Rattle.fk_replay.proofs.Present.{IsNextActing, next_acting, none_acting}
-use Rattle.fk_replay.proofs.Sparse.{SoFar, begun, more, at_end}
+use Rattle.fk_replay_steps.specs.Steps.{step_at, callers_of, runner_of}
+use Rattle.fk_replay_phases.specs.Safe.{IsAbout, IsSafeRunner, AreSafe}
+use Rattle.fk_replay_phases.specs.Present.{present, numbers_of}
+use Rattle.fk_replay_phases.specs.Actors.{IsDue, AreDue, acting_of, actings_of, runners_of, modes_of, asked, BeganAs, HasBegun, HaveBegun, HaveNone, HasDoneOne, HasDoneLocals}
+use Rattle.fk_replay_phases.specs.declared.acting.Acting.{Acting}
+use Rattle.fk_replay_phases.specs.declared.actor.Actor.{Actor}
+use Rattle.fk_replay_steps.specs.declared.list.Due.{Due}
+use Rattle.fk_replay_steps.specs.declared.runner.Runner.{Runner}
+use Rattle.fk_replay_phases.proofs.Present.{IsNextActing, next_acting, none_acting}
+use Rattle.fk_replay_phases.proofs.Sparse.{SoFar, begun, more, at_end}
 
 module _ (core : List CoreOp) (set : Setting) where
   -- ---- one processor
@@ -38,11 +38,10 @@ module _ (core : List CoreOp) (set : Setting) where
   pub record DoesLocals (count left : ℕ) (old now : Runner) : Type 0 where
     pub whether : are_local (next core) set count (runner_of old) ≡ are_local (next core) set left (runner_of now)
     pub after : after_locals (next core) set count (runner_of old) ≡ after_locals (next core) set left (runner_of now)
-    pub mode : now.mode ≡ old.mode
     pub safe : IsSafeRunner core set (runner_of now)
 
   pub does_first : (count : ℕ) (old : Runner) → IsSafeRunner core set (runner_of old) → DoesLocals count count old old
-  does_first count old safe = record { whether = refl; after = refl; mode = refl; safe = safe }
+  does_first count old safe = record { whether = refl; after = refl; safe = safe }
 
   pub does_one : (count left : ℕ) (old now new : Runner) → DoesLocals count (suc left) old now → HasDoneOne core set now new true → DoesLocals count left old new
   does_one count left old now new does one =
@@ -51,7 +50,6 @@ module _ (core : List CoreOp) (set : Setting) where
       record {
         whether = does.whether ∙ ap (λ (b : Bool). b && are_local (next core) set left (after_one (next core) set (runner_of now))) local ∙ ap (are_local (next core) set left) (sym is);
         after = does.after ∙ ap (after_locals (next core) set left) (sym is);
-        mode = one.mode refl ∙ does.mode;
         safe = subst (IsSafeRunner core set) (sym is) (safe_behind (runner_of now) local does.safe);
       }
 
@@ -63,7 +61,6 @@ module _ (core : List CoreOp) (set : Setting) where
   does_all count old now does = record {
     whether = sym does.whether;
     done = λ e. sym does.after;
-    mode = λ e. does.mode;
   }
 
   -- ---- all processors
@@ -144,11 +141,11 @@ module _ (core : List CoreOp) (set : Setting) where
   all_modes round [] (x ∷ now) all began = absurd (let z : ⊥ = omega arith in z)
   all_modes round (a ∷ old) [] all began = absurd (let z : ⊥ = omega arith in z)
   all_modes [] (a ∷ old) (x ∷ now) all began =
-      let first : x.runner.mode ≡ a.runner.mode = ((began 0 x refl).from a refl).mode in
-      ap (λ y. y ∷ modes_of now) first ∙ ap (λ ys. a.runner.mode ∷ ys) (all_modes [] old now (omega arith) (λ h y is. record { from = λ b there. (began (suc h) y is).from b there; due = (began (suc h) y is).due }))
+      let first : x.mode ≡ a.mode = ((began 0 x refl).from a refl).mode in
+      ap (λ y. y ∷ modes_of now) first ∙ ap (λ ys. a.mode ∷ ys) (all_modes [] old now (omega arith) (λ h y is. record { from = λ b there. (began (suc h) y is).from b there; due = (began (suc h) y is).due }))
   all_modes (c ∷ round) (a ∷ old) (x ∷ now) all began =
-      let first : x.runner.mode ≡ a.runner.mode = ((began 0 x refl).from a refl).mode in
-      ap (λ y. y ∷ modes_of now) first ∙ ap (λ ys. a.runner.mode ∷ ys) (all_modes round old now (omega arith) (λ h y is. record { from = λ b there. (began (suc h) y is).from b there; due = (began (suc h) y is).due }))
+      let first : x.mode ≡ a.mode = ((began 0 x refl).from a refl).mode in
+      ap (λ y. y ∷ modes_of now) first ∙ ap (λ ys. a.mode ∷ ys) (all_modes round old now (omega arith) (λ h y is. record { from = λ b there. (began (suc h) y is).from b there; due = (began (suc h) y is).due }))
 
   pub begins_end : (round : Round) (acting : List Acting) (old now : List Actor) (i : ℕ) → BeginsAt round acting old i now → HaveNone old → length round ≡ length old → length acting ≤ i
       → HaveBegun core set round old now true

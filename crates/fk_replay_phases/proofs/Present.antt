@@ -3,8 +3,8 @@ use Rattle.std.proofs.Common.{◌≡◌, ℕ, zero, suc, ◌+◌, ◌-◌, ◌<�
 use Rattle.std.specs.Prelude.{slice_index}
 use Rattle.std.proofs.lemmas.List.{get_or-drop, length-drop, drop-drop, drop_more, drop_all}
 use Rattle.fk_meaning.specs.Round.{Round}
-use Rattle.fk_replay.specs.Present.{present, numbers_of}
-use Rattle.fk_replay.specs.declared.acting.Acting.{Acting}
+use Rattle.fk_replay_phases.specs.Present.{present, numbers_of}
+use Rattle.fk_replay_phases.specs.declared.acting.Acting.{Acting}
 
 -- the first of the numbers of a list whose elements begin with number m
 record First (m : ℕ) (xs : List ℕ) (h : ℕ) (rest : List ℕ) : Type 0 where

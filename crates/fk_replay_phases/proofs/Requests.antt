@@ -11,16 +11,16 @@ use Rattle.fk_meaning.specs.Round as rounds
 use Rattle.fk_meaning.specs.Round.{Round, Step, Phase, Passes, Breaks, Phases, all_requests, after_phase, before_others, do_request, request_phase}
 use Rattle.fk_core.specs.declared.op.CoreOp.{CoreOp}
 use Rattle.fk_core.specs.Next.{Position}
-use Rattle.fk_replay.specs.Steps.{step_at, callers_of, runner_of}
-use Rattle.fk_replay.specs.Own.{IsOwn, AreOwn}
-use Rattle.fk_replay.specs.Present.{present, numbers_of}
-use Rattle.fk_replay.specs.Actors.{acting_of, actings_of, due_of, runners_of, modes_of, AreInRound, CanBeAsked, CanAllBeAsked, IsReady, AreReady, HasPassed, HasBroken, HaveAsked, fault_of}
-use Rattle.fk_replay.specs.declared.acting.Acting.{Acting}
-use Rattle.fk_replay.specs.declared.actor.Actor.{Actor}
-use Rattle.fk_replay.specs.declared.list.Due.{Due}
-use Rattle.fk_replay.specs.declared.phases.Fault as code
-use Rattle.fk_replay.proofs.Present.{IsNextActing, next_acting, none_acting}
-use Rattle.fk_replay.proofs.Sparse.{SoFar, begun, below, more, at_end}
+use Rattle.fk_replay_steps.specs.Steps.{step_at, callers_of, runner_of}
+use Rattle.fk_replay_rounds.specs.Own.{IsOwn, AreOwn}
+use Rattle.fk_replay_phases.specs.Present.{present, numbers_of}
+use Rattle.fk_replay_phases.specs.Actors.{acting_of, actings_of, due_of, runners_of, modes_of, AreInRound, CanBeAsked, CanAllBeAsked, IsReady, AreReady, HasPassed, HasBroken, HaveAsked, fault_of}
+use Rattle.fk_replay_phases.specs.declared.acting.Acting.{Acting}
+use Rattle.fk_replay_phases.specs.declared.actor.Actor.{Actor}
+use Rattle.fk_replay_steps.specs.declared.list.Due.{Due}
+use Rattle.fk_replay_phases.specs.declared.phases.Fault as code
+use Rattle.fk_replay_phases.proofs.Present.{IsNextActing, next_acting, none_acting}
+use Rattle.fk_replay_phases.proofs.Sparse.{SoFar, begun, below, more, at_end}
 
 module _ (core : List CoreOp) where
   tree_passes : (s : Store) (a : rounds.Acting Position) (step : Step Position) (class : Class) → class ≡ Tree → has_room step.operation a.runner.has ≡ true → do_request s a class step ≡ Passes s a
@@ -99,7 +99,7 @@ module _ (core : List CoreOp) where
   -- a processor that has passed
   pub record Passed (old : List Actor) (h : ℕ) (x : Actor) : Type 0 where
     pub ready : IsReady core x
-    pub mode : (a : Actor) → slice_get old h ≡ Some a → x.runner.mode ≡ a.runner.mode
+    pub mode : (a : Actor) → slice_get old h ≡ Some a → x.mode ≡ a.mode
 
   pub free : (acting : List Acting) (old : List Actor) (in_round : AreInRound acting old) → (h : ℕ) (x : Actor) → slice_get old h ≡ Some x → slice_index in_round.round h ≡ 0 → Passed old h x
   free acting old in_round h x is none = record {
@@ -138,16 +138,16 @@ module _ (core : List CoreOp) where
             (record { ready = has.ready; mode = λ b there.
                 let same : Some b ≡ Some a = sym there ∙ sym (at.so.rest x.number ahead.next.1.low) ∙ here in
                 let b_is : b ≡ a = cc in
-                has.mode ∙ ap (λ (y : Actor). y.runner.mode) (sym b_is) });
+                has.mode ∙ ap (λ (y : Actor). y.mode) (sym b_is) });
         same = at.same ∙ pass_one 0 x.number now a new s s' here (λ g y low there. (before acting old now first s i x at lt is g y low there).ready) has.passes has.ready;
       }
 
-  all_modes : (old now : List Actor) → length now ≡ length old → ((h : ℕ) (x : Actor) → slice_get now h ≡ Some x → (a : Actor) → slice_get old h ≡ Some a → x.runner.mode ≡ a.runner.mode) → modes_of now ≡ modes_of old
+  all_modes : (old now : List Actor) → length now ≡ length old → ((h : ℕ) (x : Actor) → slice_get now h ≡ Some x → (a : Actor) → slice_get old h ≡ Some a → x.mode ≡ a.mode) → modes_of now ≡ modes_of old
   all_modes [] [] all mode = refl
   all_modes [] (x ∷ now) all mode = absurd (let z : ⊥ = omega arith in z)
   all_modes (a ∷ old) [] all mode = absurd (let z : ⊥ = omega arith in z)
   all_modes (a ∷ old) (x ∷ now) all mode =
-      ap (λ m. m ∷ modes_of now) (mode 0 x refl a refl) ∙ ap (λ ms. a.runner.mode ∷ ms) (all_modes old now (omega arith) (λ h y is b there. mode (suc h) y is b there))
+      ap (λ m. m ∷ modes_of now) (mode 0 x refl a refl) ∙ ap (λ ms. a.mode ∷ ms) (all_modes old now (omega arith) (λ h y is b there. mode (suc h) y is b there))
 
   pub asks_end : (acting : List Acting) (old now : List Actor) (first s : Store) (i : ℕ) → AsksAt acting old first i now s → length acting ≤ i → HaveAsked core first s old now None
   asks_end acting old now first s i at le =

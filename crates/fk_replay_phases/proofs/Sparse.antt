@@ -2,7 +2,7 @@
 use Rattle.std.proofs.Common.{◌≡◌, ℕ, zero, suc, ◌+◌, ◌<◌, ◌≤◌, ◌⊎◌, inl, inr, List, [], ◌∷◌, length, get_or, set, map, Option, Some, None, ap, refl, sym, ◌∙◌, subst, arith, length-set}
 use Rattle.std.specs.Prelude.{slice_index, slice_get}
 use Rattle.fk_meaning.specs.Round.{Round}
-use Rattle.fk_replay.proofs.Present.{IsNext}
+use Rattle.fk_replay_phases.proofs.Present.{IsNext}
 
 -- two lists with the same elements are equal
 pub same_elements : {A : Type 0} (xs ys : List A) → length xs ≡ length ys → ((i : ℕ) → i < length xs → slice_get xs i ≡ slice_get ys i) → xs ≡ ys

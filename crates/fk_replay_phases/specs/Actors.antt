@@ -13,15 +13,15 @@ use Rattle.fk_meaning.specs.Round.{is_local_next, may_act, all_may_act, local_ph
 use Rattle.fk_meaning.specs.Round.{Passes, Breaks, request_phase, all_requests}
 use Rattle.fk_core.specs.declared.op.CoreOp.{CoreOp}
 use Rattle.fk_core.specs.Next.{Position, next}
-use Rattle.fk_replay.specs.Steps.{step_at, callers_of, runner_of}
-use Rattle.fk_replay.specs.declared.runner.Mode.{Mode}
-use Rattle.fk_replay.specs.declared.runner.Runner.{Runner}
-use Rattle.fk_replay.specs.Present.{present, numbers_of}
-use Rattle.fk_replay.specs.Served.{CanAsk}
-use Rattle.fk_replay.specs.declared.list.Due.{Due}
-use Rattle.fk_replay.specs.declared.acting.Acting as acts
-use Rattle.fk_replay.specs.declared.phases.Fault as code
-use Rattle.fk_replay.specs.declared.actor.Actor.{Actor}
+use Rattle.fk_replay_steps.specs.Steps.{step_at, callers_of, runner_of}
+use Rattle.fk_replay_rounds.specs.declared.mode.Mode.{Mode}
+use Rattle.fk_replay_steps.specs.declared.runner.Runner.{Runner}
+use Rattle.fk_replay_phases.specs.Present.{present, numbers_of}
+use Rattle.fk_replay_steps.specs.Served.{CanAsk}
+use Rattle.fk_replay_steps.specs.declared.list.Due.{Due}
+use Rattle.fk_replay_phases.specs.declared.acting.Acting as acts
+use Rattle.fk_replay_phases.specs.declared.phases.Fault as code
+use Rattle.fk_replay_phases.specs.declared.actor.Actor.{Actor}
 
 module _ (core : List CoreOp) where
   -- the operation that a processor has taken and not done yet
@@ -43,20 +43,18 @@ abbrev pub runners_of : List Actor → List (rounds.Runner Position)
 runners_of actors = map (λ a. runner_of a.runner) actors
 
 abbrev pub modes_of : List Actor → List Mode
-modes_of actors = map (λ a. a.runner.mode) actors
+modes_of actors = map (λ a. a.mode) actors
 
 module _ (core : List CoreOp) (set : Setting) where
   -- the next operation of a processor is done if it is local
   pub record HasDoneOne (old new : Runner) (did : Bool) : Type 0 where
     pub whether : did ≡ is_local_next (next core) set (next core (runner_of old).left)
     pub done : did ≡ true → runner_of new ≡ after_one (next core) set (runner_of old)
-    pub mode : did ≡ true → new.mode ≡ old.mode
 
   -- so many operations of a processor are done if all of them are local
   pub record HasDoneLocals (count : ℕ) (old new : Runner) (did : Bool) : Type 0 where
     pub whether : did ≡ are_local (next core) set count (runner_of old)
     pub done : did ≡ true → runner_of new ≡ after_locals (next core) set count (runner_of old)
-    pub mode : did ≡ true → new.mode ≡ old.mode
 
   -- a processor with a count, before the requests
   abbrev pub asked : (count : ℕ) → rounds.Runner Position → Acting Position
@@ -67,7 +65,7 @@ module _ (core : List CoreOp) (set : Setting) where
   pub record HasBegun (count : ℕ) (old new : Actor) (can : Bool) : Type 0 where
     pub whether : can ≡ may_act (next core) set count (runner_of old.runner)
     pub begun : can ≡ true → acting_of core new ≡ asked count (runner_of old.runner)
-    pub mode : can ≡ true → new.runner.mode ≡ old.runner.mode
+    pub mode : can ≡ true → new.mode ≡ old.mode
     pub due : can ≡ true → IsDue core new
 
 -- those who are in a round; the others have taken nothing
@@ -86,7 +84,7 @@ module _ (core : List CoreOp) (set : Setting) where
   pub record BeganAs (count : ℕ) (old new : Actor) : Type 0 where
     pub may : may_act (next core) set count (runner_of old.runner) ≡ true
     pub begun : acting_of core new ≡ asked core set count (runner_of old.runner)
-    pub mode : new.runner.mode ≡ old.runner.mode
+    pub mode : new.mode ≡ old.mode
 
   -- all processors of a round have begun it if all of them can
   pub record HaveBegun (round : Round) (old new : List Actor) (can : Bool) : Type 0 where
@@ -120,7 +118,7 @@ module _ (core : List CoreOp) where
     pub passes : request_phase old (acting_of core before) (due_of core before)
         ≡ Passes new (acting_of core after)
     pub ready : IsReady after
-    pub mode : after.runner.mode ≡ before.runner.mode
+    pub mode : after.mode ≡ before.mode
 
   -- a processor faults at a site
   pub record HasBroken (old new : Store) (before after : Actor) (site : ℕ) : Type 0 where

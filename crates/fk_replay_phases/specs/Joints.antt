@@ -6,9 +6,9 @@ use Rattle.fk_meaning_operation.specs.declared.kinds.Joint.TheVariants.{Alone}
 use Rattle.fk_meaning.specs.Round.{joint_due}
 use Rattle.fk_core.specs.declared.op.CoreOp.{CoreOp}
 use Rattle.fk_core.specs.Next.{next}
-use Rattle.fk_replay.specs.Steps.{position_of}
-use Rattle.fk_replay.specs.Actors.{due_of}
-use Rattle.fk_replay.specs.declared.actor.Actor.{Actor}
+use Rattle.fk_replay_steps.specs.Steps.{position_of}
+use Rattle.fk_replay_phases.specs.Actors.{due_of}
+use Rattle.fk_replay_phases.specs.declared.actor.Actor.{Actor}
 
 -- the joint operation that a processor has taken; of a processor above the last one, that which is
 -- next
@@ -20,5 +20,5 @@ abbrev pub joint_by : List CoreOp → (above : Bool) → Option Actor → Joint
 joint_by core above None = Alone
 joint_by core above (Some a) = joint_next core above a
 
-abbrev pub joint_in : List CoreOp → List Actor → (last h : ℕ) → Joint
-joint_in core actors last h = joint_by core (nat_lt last h) (slice_get actors h)
+abbrev pub joint_at : List CoreOp → List Actor → (last h : ℕ) → Joint
+joint_at core actors last h = joint_by core (nat_lt last h) (slice_get actors h)

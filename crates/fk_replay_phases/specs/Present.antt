@@ -1,11 +1,8 @@
 -- The processors of a round, and their counts.
-use Rattle.std.specs.Prelude.{◌≡◌, ℕ, zero, suc, List, [], ◌∷◌, length, map, slice_index}
+use Rattle.std.specs.Prelude.{◌≡◌, ℕ, zero, suc, ◌<◌, List, [], ◌∷◌, length, map, slice_index}
 use Rattle.fk_tree.specs.Tree as t
-use Rattle.fk_trace.specs.declared.column.Column.TheVariants.{Counts}
-use Rattle.fk_trace.specs.Text.{Range}
 use Rattle.fk_meaning.specs.Round.{Round, lowest, highest}
-use Rattle.fk_replay_text.specs.Trace as trace
-use Rattle.fk_replay.specs.declared.acting.Acting.{Acting}
+use Rattle.fk_replay_phases.specs.declared.acting.Acting.{Acting}
 
 -- no processor is in the round
 pub record AreNone (processors : ℕ) (round : Round) : Type 0 where
@@ -17,6 +14,10 @@ abbrev pub present : (first : ℕ) → Round → List ℕ
 present first [] = []
 present first (zero ∷ round) = present (suc first) round
 present first (suc c ∷ round) = first ∷ present (suc first) round
+
+-- numbers of processors
+pub record AreBelow (processors : ℕ) (members : List ℕ) : Type 0 where
+  pub each : (i : ℕ) → i < length members → slice_index members i < processors
 
 -- a processor in a round, by the tree before the round
 abbrev pub acting_at : t.Tree → ℕ → Acting
@@ -33,7 +34,3 @@ all_acting tree numbers = map (acting_at tree) numbers
 
 abbrev pub numbers_of : List Acting → List ℕ
 numbers_of acting = map (λ a. a.number) acting
-
--- the ranges of a trace
-abbrev pub AreRanges : (processors : ℕ) → List Range → Type 0
-AreRanges processors ranges = trace.AreRanges Counts processors ranges

@@ -4,8 +4,8 @@ use Rattle.fk_meaning.specs.Processor.{Setting}
 use Rattle.fk_meaning.specs.Round.{Runner, Step, are_local, after_locals}
 use Rattle.fk_core.specs.declared.op.CoreOp.{CoreOp}
 use Rattle.fk_core.specs.Next.{Position, next}
-use Rattle.fk_replay.specs.Served.{CanAsk}
-use Rattle.fk_replay.specs.Steps.{GivesBack}
+use Rattle.fk_replay_steps.specs.Served.{CanAsk}
+use Rattle.fk_replay_steps.specs.Steps.{GivesBack}
 
 module _ (core : List CoreOp) (set : Setting) where
   -- a processor that, after some of its local operations, is about to do a step

@@ -2,23 +2,24 @@
 
 ghost use Rattle.std.specs.Prelude.{◌≡◌, ◌^◌, ◌<◌, ◌≤◌, length, IfOk};
 ghost use Rattle.fk_meaning_state.specs.View.{setting_of};
-ghost use Rattle.fk_replay.specs.Steps.{runner_of};
-ghost use Rattle.fk_replay.specs.Safe.{IsSafeRunner};
-ghost use Rattle.fk_replay.specs.Actors.{HasDoneOne, HasDoneLocals, HasBegun};
+ghost use Rattle.fk_replay_steps.specs.Steps.{runner_of};
+ghost use Rattle.fk_replay_phases.specs.Safe.{IsSafeRunner};
+ghost use Rattle.fk_replay_phases.specs.Actors.{HasDoneOne, HasDoneLocals, HasBegun};
 
-use crate::list::Due;
-use crate::local::{do_local, is_onward};
-use crate::runner::{Runner, class_of};
 use fk_core::CoreOp;
 use fk_meaning_operation::Class;
 use fk_meaning_state::Setting;
+use fk_replay_rounds::Mode;
+use fk_replay_steps::{Due, Runner, class_of, do_local, is_onward};
 use std::alloc::AllocError;
 
-/// A processor, and the operation that it takes in the current round and has not done yet.
+/// A processor, how the members of its node act, and the operation that it takes in the current
+/// round and has not done yet.
 #[derive(Drop)]
-pub(crate) struct Actor {
-    pub(crate) runner: Runner,
-    pub(crate) taken: Option<Due>,
+pub struct Actor {
+    pub runner: Runner,
+    pub mode: Mode,
+    pub taken: Option<Due>,
 }
 
 /// Does the next operation of a processor if it is local, and says whether it is.
@@ -62,7 +63,7 @@ fn do_locals(
 
 /// A processor does all but the last of its operations, takes the last one, and does it if it is
 /// local. It is `false` if the processor can't be in a round with this count.
-pub(crate) fn begin(
+pub fn begin(
     setting: Setting,
     ops: &[CoreOp],
     count: u32,

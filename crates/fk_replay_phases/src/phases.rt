@@ -2,31 +2,32 @@
 
 ghost use Rattle.std.specs.Prelude.{◌≡◌, ℕ, ◌^◌, ◌<◌, ◌≤◌, length, vec_len, slice_index, IfOk};
 ghost use Rattle.fk_meaning_state.specs.View.{setting_of};
-ghost use Rattle.fk_replay.specs.Safe.{AreSafe};
-ghost use Rattle.fk_replay.specs.Present.{present, numbers_of};
-ghost use Rattle.fk_replay.specs.Actors.{HaveNone, HaveBegun, runners_of};
+ghost use Rattle.fk_replay_phases.specs.Safe.{AreSafe};
+ghost use Rattle.fk_replay_phases.specs.Present.{present, numbers_of};
+ghost use Rattle.fk_meaning_store.specs.View.{store_of, processors_of};
+ghost use Rattle.fk_replay_rounds.specs.Own.{AreOwn};
+ghost use Rattle.fk_replay_phases.specs.Actors.{HaveNone, HaveBegun, runners_of, AreInRound};
+ghost use Rattle.fk_replay_phases.specs.Actors.{CanBeAsked, CanAllBeAsked, HasAsked, HaveAsked};
 
 use crate::acting::Acting;
 use crate::actor::{Actor, begin};
-use crate::group::has_room;
-use crate::request::do_request;
-use crate::runner::class_of;
 use fk_core::CoreOp;
 use fk_meaning_operation::Class;
 use fk_meaning_state::Setting;
 use fk_meaning_store::Store32;
+use fk_replay_steps::{class_of, do_request, has_room};
 use std::alloc::{AllocError, Global};
 
 /// A fault: its site and its processor.
 #[derive(Clone, Copy)]
-pub(crate) struct Fault {
-    pub(crate) site: u32,
-    pub(crate) processor: u32,
+pub struct Fault {
+    pub site: u32,
+    pub processor: u32,
 }
 
 /// All processors of a round do their local operations and take the last one. It is `false` if one
 /// of them can't.
-pub(crate) fn begin_all(
+pub fn begin_all(
     setting: Setting,
     ops: &[CoreOp],
     acting: &[Acting],
@@ -52,18 +53,27 @@ pub(crate) fn begin_all(
 }
 
 /// Does the requests, up to the first fault.
-pub(crate) fn do_requests(
+pub fn do_requests(
     alloc: Global,
     ops: &[CoreOp],
     acting: &[Acting],
     store: &mut Store32,
     actors: &mut Vec<Actor>,
 ) -> Result<Option<Fault>, AllocError>
+    requires few { length ops.now < 2 ^ 32 }
+    requires many { vec_len actors.old ≡ processors_of store.old }
+    requires acting { AreInRound acting.now actors.old.items }
+    requires own { AreOwn (runners_of actors.old.items) }
+    requires can { CanAllBeAsked ops.now actors.old.items }
+    ensures asked { IfOk result (HaveAsked ops.now (store_of store.old) (store_of store.new)
+        actors.old.items actors.new.items) }
+    ensures processors { processors_of store.new ≡ processors_of store.old }
 {
-    for acting in acting {
-        let actor = &mut actors[acting.number as usize];
-        if let Some(site) = ask(alloc, ops, store, actor)? {
-            return Ok(Some(Fault { site, processor: acting.number }));
+    for member in acting {
+        let number = member.number as usize;
+        if let Some(site) = ask(alloc, ops, store, &mut actors[number])? {
+            let processor = member.number;
+            return Ok(Some(Fault { site, processor }));
         }
     }
     Ok(None)
@@ -76,15 +86,22 @@ fn ask(
     store: &mut Store32,
     actor: &mut Actor,
 ) -> Result<Option<u32>, AllocError>
+    requires few { length ops.now < 2 ^ 32 }
+    requires number { actor.old.runner.processor.number < processors_of store.old }
+    requires depth { vec_len actor.old.runner.processor.callers < 256 }
+    requires can { CanBeAsked ops.now actor.old }
+    ensures asked { IfOk result (HasAsked ops.now (store_of store.old) (store_of store.new)
+        actor.old actor.new) }
+    ensures processors { processors_of store.new ≡ processors_of store.old }
 {
     let Some(due) = actor.taken else {
         return Ok(None);
     };
-    let processor = &mut actor.runner.processor;
     if class_of(due.operation) == Class::Tree {
-        let fits = has_room(due.operation, processor);
+        let fits = has_room(due.operation, &actor.runner.processor);
         return Ok(if fits { None } else { Some(due.site) });
     }
+    let processor = &mut actor.runner.processor;
     if do_request(alloc, store, due.operation, processor)?.is_err() {
         return Ok(Some(due.site));
     }

@@ -161,7 +161,7 @@ module _ (round : Round) (last : ℕ) (joint : ℕ → Joint) (tree : t.Tree) (p
       omega arith
 
   -- who is not above the last one joins with count 1
-  joins_of : (j : Joint) (h : ℕ) → h ≤ last → one_joins round last joint tree j h ≡ true → (slice_index round h ≡ 1) × (joint h ≡ j)
+  joins_of : (j : Joint) (h : ℕ) → h ≤ last → one_joins round last joint j h ≡ true → (slice_index round h ≡ 1) × (joint h ≡ j)
   joins_of j h le e =
       let parts = and_true (nat_lt last h || (slice_index round h == 1)) (same_joint j (joint h)) e in
       (eq_of (slice_index round h) 1 (sym (ap (λ (b : Bool). b || (slice_index round h == 1)) (lt_false last h le)) ∙ parts.0), same_of j (joint h) parts.1)
@@ -183,9 +183,9 @@ module _ (round : Round) (last : ℕ) (joint : ℕ → Joint) (tree : t.Tree) (p
       (fit.each (lowest (t.members tree (tree.places h))) some)
 
   group_all : (h n : ℕ) → (lowest (t.members tree n) == lowest (t.members tree n)) ≡ true → fits_by round last joint tree (lowest (t.members tree n)) n (mode_of (Some Lockstep)) ≡ true
-      → all_have round last joint tree (slice_index round (lowest (t.members tree n))) (t.members tree n) ≡ true
+      → all_have round last (slice_index round (lowest (t.members tree n))) (t.members tree n) ≡ true
   group_all h n self e =
-      sym (ap (λ (b : Bool). if b then all_have round last joint tree (slice_index round (lowest (t.members tree n))) (t.members tree n) else (slice_index round (lowest (t.members tree n)) == slice_index round (lowest (t.members tree n)))) self) ∙ e
+      sym (ap (λ (b : Bool). if b then all_have round last (slice_index round (lowest (t.members tree n))) (t.members tree n) else (slice_index round (lowest (t.members tree n)) == slice_index round (lowest (t.members tree n)))) self) ∙ e
 
   group_fits : (fit : FitByLowest round last joint tree) (h : ℕ) → 0 < slice_index round h → t.kind tree (tree.places h) ≡ Some Lockstep → fits_kind_below round last joint tree h (tree.places h) (Some Lockstep) ≡ true
   group_fits fit h is kind = by (bool_cases (h == lowest members))
@@ -199,21 +199,21 @@ module _ (round : Round) (last : ℕ) (joint : ℕ → Joint) (tree : t.Tree) (p
       own : fits_by round last joint tree h (tree.places h) (mode_of (Some Lockstep)) ≡ true
       own = subst (λ k. fits_by round last joint tree h (tree.places h) (mode_of k) ≡ true) kind (fit.each h is)
 
-      by : ((h == lowest (t.members tree (tree.places h))) ≡ true) ⊎ ((h == lowest (t.members tree (tree.places h))) ≡ false) → all_have round last joint tree (slice_index round h) (t.members tree (tree.places h)) ≡ true
+      by : ((h == lowest (t.members tree (tree.places h))) ≡ true) ⊎ ((h == lowest (t.members tree (tree.places h))) ≡ false) → all_have round last (slice_index round h) (t.members tree (tree.places h)) ≡ true
       by (inl e) =
-          sym (ap (λ (b : Bool). if b then all_have round last joint tree (slice_index round h) (t.members tree (tree.places h)) else (slice_index round (lowest (t.members tree (tree.places h))) == slice_index round h)) e) ∙ own
+          sym (ap (λ (b : Bool). if b then all_have round last (slice_index round h) (t.members tree (tree.places h)) else (slice_index round (lowest (t.members tree (tree.places h))) == slice_index round h)) e) ∙ own
       by (inr e) =
           let count : slice_index round (lowest (t.members tree (tree.places h))) ≡ slice_index round h =
-              eq_of _ _ (sym (ap (λ (b : Bool). if b then all_have round last joint tree (slice_index round h) (t.members tree (tree.places h)) else (slice_index round (lowest (t.members tree (tree.places h))) == slice_index round h)) e) ∙ own) in
+              eq_of _ _ (sym (ap (λ (b : Bool). if b then all_have round last (slice_index round h) (t.members tree (tree.places h)) else (slice_index round (lowest (t.members tree (tree.places h))) == slice_index round h)) e) ∙ own) in
           let at = low_at h is (leaf_lockstep tree (tree.places h) kind) in
           let lows = subst (λ k. fits_by round last joint tree (lowest (t.members tree (tree.places h))) (tree.places h) (mode_of k) ≡ true) kind (at_low fit h at (omega arith)) in
-          subst (λ (c : ℕ). all_have round last joint tree c (t.members tree (tree.places h)) ≡ true) count
+          subst (λ (c : ℕ). all_have round last c (t.members tree (tree.places h)) ≡ true) count
           (group_all h (tree.places h) (eq_to _ _ refl) lows)
 
   -- an operation of all members
-  lowest_all : (j : Joint) (n : ℕ) → joins_lowest round last joint tree (lowest (t.members tree n)) n j ≡ true → all_join round last joint tree j (t.members tree n) ≡ true
+  lowest_all : (j : Joint) (n : ℕ) → joins_lowest round last joint tree (lowest (t.members tree n)) n j ≡ true → all_join round last joint j (t.members tree n) ≡ true
   lowest_all j n e =
-      sym (ap (λ (b : Bool). if b then all_join round last joint tree j (t.members tree n) else one_joins round last joint tree j (lowest (t.members tree n))) (eq_to (lowest (t.members tree n)) (lowest (t.members tree n)) refl)) ∙ e
+      sym (ap (λ (b : Bool). if b then all_join round last joint j (t.members tree n) else one_joins round last joint j (lowest (t.members tree n))) (eq_to (lowest (t.members tree n)) (lowest (t.members tree n)) refl)) ∙ e
 
   -- what the test of the lowest member says, once it is known to join
   LowTest : Joint → ℕ → Type 0
@@ -221,13 +221,13 @@ module _ (round : Round) (last : ℕ) (joint : ℕ → Joint) (tree : t.Tree) (p
 
   joins_all : (j : Joint) (h : ℕ) → 0 < slice_index round h → joins_lowest round last joint tree h (tree.places h) j ≡ true
       → ((slice_index round (lowest (t.members tree (tree.places h))) ≡ 1) → joint (lowest (t.members tree (tree.places h))) ≡ j → joins_lowest round last joint tree (lowest (t.members tree (tree.places h))) (tree.places h) j ≡ true)
-      → all_join round last joint tree j (t.members tree (tree.places h)) ≡ true
+      → all_join round last joint j (t.members tree (tree.places h)) ≡ true
   joins_all j h is e test = by (bool_cases (h == lowest (t.members tree (tree.places h))))
     where
-      by : ((h == lowest (t.members tree (tree.places h))) ≡ true) ⊎ ((h == lowest (t.members tree (tree.places h))) ≡ false) → all_join round last joint tree j (t.members tree (tree.places h)) ≡ true
-      by (inl same) = sym (ap (λ (b : Bool). if b then all_join round last joint tree j (t.members tree (tree.places h)) else one_joins round last joint tree j (lowest (t.members tree (tree.places h)))) same) ∙ e
+      by : ((h == lowest (t.members tree (tree.places h))) ≡ true) ⊎ ((h == lowest (t.members tree (tree.places h))) ≡ false) → all_join round last joint j (t.members tree (tree.places h)) ≡ true
+      by (inl same) = sym (ap (λ (b : Bool). if b then all_join round last joint j (t.members tree (tree.places h)) else one_joins round last joint j (lowest (t.members tree (tree.places h)))) same) ∙ e
       by (inr other) =
-          let one : one_joins round last joint tree j (lowest (t.members tree (tree.places h))) ≡ true = sym (ap (λ (b : Bool). if b then all_join round last joint tree j (t.members tree (tree.places h)) else one_joins round last joint tree j (lowest (t.members tree (tree.places h)))) other) ∙ e in
+          let one : one_joins round last joint j (lowest (t.members tree (tree.places h))) ≡ true = sym (ap (λ (b : Bool). if b then all_join round last joint j (t.members tree (tree.places h)) else one_joins round last joint j (lowest (t.members tree (tree.places h)))) other) ∙ e in
           let has = joins_of j (lowest (t.members tree (tree.places h))) (low_below h is) one in
           lowest_all j (tree.places h) (test has.0 has.1)
 
@@ -265,12 +265,12 @@ module _ (round : Round) (last : ℕ) (joint : ℕ → Joint) (tree : t.Tree) (p
       by Closing e = ap (joins_below round last joint tree (tree.places h)) e
           ∙ joins_all Closing h is (own_at Closing e) (test_at fit h false (low_at h is (leaf Closing (λ z. cc) e (λ z. cc))) shape Closing)
       by AtBarrier e = ap (joins_below round last joint tree (tree.places h)) e
-          ∙ ap (all_join round last joint tree AtBarrier) (all_body kind_is)
+          ∙ ap (all_join round last joint AtBarrier) (all_body kind_is)
           ∙ joins_all AtBarrier h is (own_at AtBarrier e) (test_at fit h false (low_at h is (leaf AtBarrier (λ z. cc) e (λ z. cc))) shape AtBarrier)
       by Resuming e =
           let parts = and_true (t.ready tree (tree.places h)) (joins_lowest round last joint tree h (tree.places h) Resuming) (own_at Resuming e) in
           ap (joins_below round last joint tree (tree.places h)) e
-          ∙ both (t.ready tree (tree.places h)) (all_join round last joint tree Resuming (t.members tree (tree.places h))) parts.0
+          ∙ both (t.ready tree (tree.places h)) (all_join round last joint Resuming (t.members tree (tree.places h))) parts.0
             (joins_all Resuming h is parts.1 (λ one does. (and_true (t.ready tree (tree.places h)) (joins_lowest round last joint tree (lowest (t.members tree (tree.places h))) (tree.places h) Resuming)
                 (test_at fit h false (low_at h is (ready_leaf parts.0)) shape Resuming one does)).1))
 
@@ -302,8 +302,8 @@ module _ (round : Round) (last : ℕ) (joint : ℕ → Joint) (tree : t.Tree) (p
       by Alone e = ap (joins_below round last joint tree (tree.places h)) e
       by Starting e = ap (joins_below round last joint tree (tree.places h)) e ∙ joins_all Starting h is (own_at Starting e) (test_at fit h true at shape Starting)
       by Closing e = ap (joins_below round last joint tree (tree.places h)) e ∙ joins_all Closing h is (own_at Closing e) (test_at fit h true at shape Closing)
-      by AtBarrier e = ap (joins_below round last joint tree (tree.places h)) e ∙ ap (all_join round last joint tree AtBarrier) body
-          ∙ both (one_joins round last joint tree AtBarrier (lowest (t.members tree (tree.places h)))) true (own_at AtBarrier e) refl
+      by AtBarrier e = ap (joins_below round last joint tree (tree.places h)) e ∙ ap (all_join round last joint AtBarrier) body
+          ∙ both (one_joins round last joint AtBarrier (lowest (t.members tree (tree.places h)))) true (own_at AtBarrier e) refl
       by Resuming e =
           let ready : t.ready tree (tree.places h) ≡ false = ap (t.is_ready tree) kind_is in
           absurd (let bad : false ≡ true = sym ready ∙ (and_true (t.ready tree (tree.places h)) (joins_lowest round last joint tree h (tree.places h) Resuming) (own_at Resuming e)).0 in cc)
@@ -330,23 +330,23 @@ module _ (round : Round) (last : ℕ) (joint : ℕ → Joint) (tree : t.Tree) (p
 
   -- ---- from all to the lowest member
 
-  low_of_all : (j : Joint) (h : ℕ) → 0 < slice_index round h → all_join round last joint tree j (t.members tree (tree.places h)) ≡ true → joins_lowest round last joint tree h (tree.places h) j ≡ true
+  low_of_all : (j : Joint) (h : ℕ) → 0 < slice_index round h → all_join round last joint j (t.members tree (tree.places h)) ≡ true → joins_lowest round last joint tree h (tree.places h) j ≡ true
   low_of_all j h is all = by (bool_cases (h == lowest (t.members tree (tree.places h))))
     where
       by : ((h == lowest (t.members tree (tree.places h))) ≡ true) ⊎ ((h == lowest (t.members tree (tree.places h))) ≡ false) → joins_lowest round last joint tree h (tree.places h) j ≡ true
-      by (inl e) = ap (λ (b : Bool). if b then all_join round last joint tree j (t.members tree (tree.places h)) else one_joins round last joint tree j (lowest (t.members tree (tree.places h)))) e ∙ all
-      by (inr e) = ap (λ (b : Bool). if b then all_join round last joint tree j (t.members tree (tree.places h)) else one_joins round last joint tree j (lowest (t.members tree (tree.places h)))) e
-          ∙ list_all_at (one_joins round last joint tree j) (t.members tree (tree.places h)) (lowest (t.members tree (tree.places h))) all (low_has h is)
+      by (inl e) = ap (λ (b : Bool). if b then all_join round last joint j (t.members tree (tree.places h)) else one_joins round last joint j (lowest (t.members tree (tree.places h)))) e ∙ all
+      by (inr e) = ap (λ (b : Bool). if b then all_join round last joint j (t.members tree (tree.places h)) else one_joins round last joint j (lowest (t.members tree (tree.places h)))) e
+          ∙ list_all_at (one_joins round last joint j) (t.members tree (tree.places h)) (lowest (t.members tree (tree.places h))) all (low_has h is)
 
-  group_back : (h : ℕ) → 0 < slice_index round h → all_have round last joint tree (slice_index round h) (t.members tree (tree.places h)) ≡ true → fits_by round last joint tree h (tree.places h) (mode_of (Some Lockstep)) ≡ true
+  group_back : (h : ℕ) → 0 < slice_index round h → all_have round last (slice_index round h) (t.members tree (tree.places h)) ≡ true → fits_by round last joint tree h (tree.places h) (mode_of (Some Lockstep)) ≡ true
   group_back h is all = by (bool_cases (h == lowest (t.members tree (tree.places h))))
     where
       by : ((h == lowest (t.members tree (tree.places h))) ≡ true) ⊎ ((h == lowest (t.members tree (tree.places h))) ≡ false) → fits_by round last joint tree h (tree.places h) (mode_of (Some Lockstep)) ≡ true
-      by (inl e) = ap (λ (b : Bool). if b then all_have round last joint tree (slice_index round h) (t.members tree (tree.places h)) else (slice_index round (lowest (t.members tree (tree.places h))) == slice_index round h)) e ∙ all
+      by (inl e) = ap (λ (b : Bool). if b then all_have round last (slice_index round h) (t.members tree (tree.places h)) else (slice_index round (lowest (t.members tree (tree.places h))) == slice_index round h)) e ∙ all
       by (inr e) =
           let one : (nat_lt last (lowest (t.members tree (tree.places h))) || (slice_index round (lowest (t.members tree (tree.places h))) == slice_index round h)) ≡ true =
               list_all_at (λ (m : ℕ). nat_lt last m || (slice_index round m == slice_index round h)) (t.members tree (tree.places h)) (lowest (t.members tree (tree.places h))) all (low_has h is) in
-          ap (λ (b : Bool). if b then all_have round last joint tree (slice_index round h) (t.members tree (tree.places h)) else (slice_index round (lowest (t.members tree (tree.places h))) == slice_index round h)) e
+          ap (λ (b : Bool). if b then all_have round last (slice_index round h) (t.members tree (tree.places h)) else (slice_index round (lowest (t.members tree (tree.places h))) == slice_index round h)) e
           ∙ (sym (ap (λ (b : Bool). b || (slice_index round (lowest (t.members tree (tree.places h))) == slice_index round h)) (lt_false last (lowest (t.members tree (tree.places h))) (low_below h is))) ∙ one)
 
   joins_back : (h : ℕ) (kind : Option Kind) → 0 < slice_index round h → t.kind tree (tree.places h) ≡ kind → (is_alone : Bool)
@@ -356,13 +356,13 @@ module _ (round : Round) (last : ℕ) (joint : ℕ → Joint) (tree : t.Tree) (p
   joins_back h kind is kind_is is_alone body low_in Starting e = low_of_all Starting h is e
   joins_back h kind is kind_is is_alone body low_in Closing e = low_of_all Closing h is e
   joins_back h kind is kind_is is_alone body low_in Resuming e =
-      let parts = and_true (t.ready tree (tree.places h)) (all_join round last joint tree Resuming (t.members tree (tree.places h))) e in
+      let parts = and_true (t.ready tree (tree.places h)) (all_join round last joint Resuming (t.members tree (tree.places h))) e in
       both (t.ready tree (tree.places h)) (joins_lowest round last joint tree h (tree.places h) Resuming) parts.0 (low_of_all Resuming h is parts.1)
   joins_back h kind is kind_is true body low_in AtBarrier e =
-      list_all_at (one_joins round last joint tree AtBarrier) (body_of kind (t.members tree (tree.places h))) (lowest (t.members tree (tree.places h)))
-      (ap (λ k. all_join round last joint tree AtBarrier (body_of k (t.members tree (tree.places h)))) (sym kind_is) ∙ e) (low_in refl)
+      list_all_at (one_joins round last joint AtBarrier) (body_of kind (t.members tree (tree.places h))) (lowest (t.members tree (tree.places h)))
+      (ap (λ k. all_join round last joint AtBarrier (body_of k (t.members tree (tree.places h)))) (sym kind_is) ∙ e) (low_in refl)
   joins_back h kind is kind_is false body low_in AtBarrier e =
-      low_of_all AtBarrier h is (ap (all_join round last joint tree AtBarrier) (sym (body refl)) ∙ ap (λ k. all_join round last joint tree AtBarrier (body_of k (t.members tree (tree.places h)))) (sym kind_is) ∙ e)
+      low_of_all AtBarrier h is (ap (all_join round last joint AtBarrier) (sym (body refl)) ∙ ap (λ k. all_join round last joint AtBarrier (body_of k (t.members tree (tree.places h)))) (sym kind_is) ∙ e)
 
   each_back : (h : ℕ) → 0 < slice_index round h → fits_kind_below round last joint tree h (tree.places h) (t.kind tree (tree.places h)) ≡ true → fits_by round last joint tree h (tree.places h) (mode_of (t.kind tree (tree.places h))) ≡ true
   each_back h is fits = by (t.kind tree (tree.places h)) refl

@@ -15,26 +15,27 @@ use Rattle.fk_replay_rounds.specs.declared.mode.Mode.{Mode}
 use Rattle.fk_replay_rounds.specs.declared.mode.Mode.TheVariants as mode
 use Rattle.fk_replay_rounds.specs.Modes.{mode_of}
 
-module _ (round : Round) (last : ℕ) (joint : ℕ → Joint) (tree : t.Tree) where
+abbrev pub all_have : Round → (last count : ℕ) → List ℕ → Bool
+all_have round last count members =
+    list_all (λ m. nat_lt last m || (slice_index round m == count)) members
+
+module _ (round : Round) (last : ℕ) (joint : ℕ → Joint) where
   abbrev pub one_joins : Joint → (h : ℕ) → Bool
   one_joins j h = (nat_lt last h || (slice_index round h == 1)) && same_joint j (joint h)
 
   abbrev pub all_join : Joint → List ℕ → Bool
   all_join j members = list_all (one_joins j) members
 
-  abbrev pub all_have : (count : ℕ) → List ℕ → Bool
-  all_have count members =
-      list_all (λ m. nat_lt last m || (slice_index round m == count)) members
-
+module _ (round : Round) (last : ℕ) (joint : ℕ → Joint) (tree : t.Tree) where
   abbrev pub joins_below : (n : ℕ) → Joint → Bool
   joins_below n Alone = true
-  joins_below n Starting = all_join Starting (t.members tree n)
-  joins_below n AtBarrier = all_join AtBarrier (body_of (t.kind tree n) (t.members tree n))
-  joins_below n Closing = all_join Closing (t.members tree n)
-  joins_below n Resuming = t.ready tree n && all_join Resuming (t.members tree n)
+  joins_below n Starting = all_join round last joint Starting (t.members tree n)
+  joins_below n AtBarrier = all_join round last joint AtBarrier (body_of (t.kind tree n) (t.members tree n))
+  joins_below n Closing = all_join round last joint Closing (t.members tree n)
+  joins_below n Resuming = t.ready tree n && all_join round last joint Resuming (t.members tree n)
 
   abbrev pub fits_kind_below : (h n : ℕ) → Option Kind → Bool
-  fits_kind_below h n (Some Lockstep) = all_have (slice_index round h) (t.members tree n)
+  fits_kind_below h n (Some Lockstep) = all_have round last (slice_index round h) (t.members tree n)
   fits_kind_below h n kind = joins_below n (joint h)
 
   abbrev pub fits_below : (h count : ℕ) → Bool
@@ -49,17 +50,17 @@ module _ (round : Round) (last : ℕ) (joint : ℕ → Joint) (tree : t.Tree) wh
   -- all
   abbrev pub joins_lowest : (h n : ℕ) → Joint → Bool
   joins_lowest h n j = let members = t.members tree n in
-      if h == lowest members then all_join j members else one_joins j (lowest members)
+      if h == lowest members then all_join round last joint j members else one_joins round last joint j (lowest members)
 
   abbrev pub joins_by : (h n : ℕ) → (is_alone : Bool) → Joint → Bool
   joins_by h n is_alone Alone = true
   joins_by h n is_alone Resuming = t.ready tree n && joins_lowest h n Resuming
-  joins_by h n true AtBarrier = one_joins AtBarrier (lowest (t.members tree n))
+  joins_by h n true AtBarrier = one_joins round last joint AtBarrier (lowest (t.members tree n))
   joins_by h n is_alone j = joins_lowest h n j
 
   abbrev pub fits_by : (h n : ℕ) → Mode → Bool
   fits_by h n mode.Group = let members = t.members tree n in
-      if h == lowest members then all_have (slice_index round h) members
+      if h == lowest members then all_have round last (slice_index round h) members
       else slice_index round (lowest members) == slice_index round h
   fits_by h n mode.Alone = joins_by h n true (joint h)
   fits_by h n mode.Apart = joins_by h n false (joint h)

@@ -13,7 +13,7 @@ use std::alloc::AllocError;
 
 /// How the members of a processor's node act.
 #[derive(Clone, Copy, PartialEq, Eq)]
-pub(crate) enum Mode {
+pub enum Mode {
     /// As a group in lockstep.
     Group,
     /// By themselves, or they wait for parts.
@@ -25,15 +25,15 @@ pub(crate) enum Mode {
 /// A processor, the index of its next operation, and the indices to which its calls return, the
 /// last call's last.
 #[derive(Drop)]
-pub(crate) struct Runner {
-    pub(crate) at: u32,
-    pub(crate) returns: Vec<u32>,
-    pub(crate) mode: Mode,
-    pub(crate) processor: Processor,
+pub struct Runner {
+    pub at: u32,
+    pub returns: Vec<u32>,
+    pub mode: Mode,
+    pub processor: Processor,
 }
 
 /// When in a round an operation is done.
-pub(crate) fn class_of(operation: Operation) -> Class
+pub fn class_of(operation: Operation) -> Class
     ensures { result ≡ kinds.class_of operation }
 {
     match operation.kind() {
@@ -44,10 +44,10 @@ pub(crate) fn class_of(operation: Operation) -> Class
 }
 
 impl Runner {
-    ghost use Rattle.fk_replay.specs.Steps.{step_at, callers_of, position_of};
+    ghost use Rattle.fk_replay_steps.specs.Steps.{step_at, callers_of, position_of};
 
     /// The next operation, if there is one.
-    pub(crate) fn due(&self, ops: &[CoreOp]) -> Option<Due>
+    pub fn due(&self, ops: &[CoreOp]) -> Option<Due>
         ensures due { option_map (step_at ops.now (callers_of self.now)) result
             ≡ n.next ops.now (position_of self.now) }
         ensures within { IfSome result (λ due. due.at < length ops.now) }
@@ -56,7 +56,7 @@ impl Runner {
     }
 
     /// Goes on behind an operation, on one of its ways.
-    pub(crate) fn pass(&mut self, ops: &[CoreOp], due: Due, onward: bool) -> Result<(), AllocError>
+    pub fn pass(&mut self, ops: &[CoreOp], due: Due, onward: bool) -> Result<(), AllocError>
         requires within { due.at < length ops.now }
         requires few { length ops.now < 2 ^ 32 }
         ensures left { OnOk result (position_of self.new

@@ -4,7 +4,7 @@ ghost use Rattle.std.specs.Prelude.{◌≡◌, ◌+◌, ◌^◌, ◌<◌, IfOk, 
 ghost use Rattle.fk_meaning_store.specs.View.{store_of, processors_of};
 ghost use Rattle.fk_meaning.specs.Request as r;
 ghost use Rattle.fk_meaning_state.specs.View.{processor_of};
-ghost use Rattle.fk_replay.specs.Served.{CanAsk, IsServed};
+ghost use Rattle.fk_replay_steps.specs.Served.{CanAsk, IsServed};
 
 use crate::values::{drop_last, last, put_last, put_word, value_before};
 use fk_meaning_operation::{FaultKind, Operation};
@@ -85,7 +85,7 @@ fn take_answer(
 }
 
 /// Does a request of a processor, or gives the fault with which it is refused.
-pub(crate) fn do_request(
+pub fn do_request(
     alloc: Global,
     store: &mut Store32,
     operation: Operation,

@@ -8,21 +8,20 @@ ghost use Rattle.fk_meaning.specs.Group as g;
 ghost use Rattle.fk_meaning_state.specs.View.{processor_of, level_of};
 
 use crate::local::{address_of, words_of};
-use crate::runner::Mode;
 use crate::values::{drop_last, last, push, put_last, put_word, value_before};
 use fk_meaning_operation::{Operation, SplitKind};
 use fk_meaning_state::{Level, Processor};
 use std::alloc::AllocError;
 
 /// A word that is read as a signed number, or 0 if it is below 0.
-pub(crate) fn not_negative(word: u32) -> u32
+pub fn not_negative(word: u32) -> u32
     ensures { result ≡ g.not_negative word }
 {
     if word < 1 << 31 { word } else { 0 }
 }
 
 /// The number of parts of a split.
-pub(crate) fn parts(by: SplitKind, processor: &Processor) -> u32
+pub fn parts(by: SplitKind, processor: &Processor) -> u32
     ensures { result ≡ g.parts by (p.values (processor_of processor.now)) }
 {
     match by {
@@ -33,7 +32,7 @@ pub(crate) fn parts(by: SplitKind, processor: &Processor) -> u32
 }
 
 /// The part that a member enters, unless it waits.
-pub(crate) fn part(by: SplitKind, processor: &Processor) -> Option<u32>
+pub fn part(by: SplitKind, processor: &Processor) -> Option<u32>
     ensures part { result ≡ g.part by (p.values (processor_of processor.now)) }
     ensures below { IfSome result
         (λ part. part < g.parts by (p.values (processor_of processor.now))) }
@@ -63,14 +62,14 @@ fn taken_by(by: SplitKind) -> usize
 }
 
 /// Whether a member stays in a loop.
-pub(crate) fn stays(processor: &Processor) -> bool
+pub fn stays(processor: &Processor) -> bool
     ensures { result ≡ g.stays (processor_of processor.now) }
 {
     last(processor) != 0
 }
 
 /// Whether a `start` takes a processor.
-pub(crate) fn is_taken(value: u32, processor: &Processor) -> bool
+pub fn is_taken(value: u32, processor: &Processor) -> bool
     ensures { result ≡ g.is_taken value (processor_of processor.now) }
 {
     processor.number < not_negative(value)
@@ -178,7 +177,7 @@ fn take_block(processor: &mut Processor) -> Result<(), AllocError>
 }
 
 /// Whether a step finds the words that it needs.
-pub(crate) fn has_room(operation: Operation, processor: &Processor) -> bool
+pub fn has_room(operation: Operation, processor: &Processor) -> bool
     ensures { result ≡ g.has_room operation (processor_of processor.now) }
 {
     match operation {
@@ -192,7 +191,7 @@ pub(crate) fn has_room(operation: Operation, processor: &Processor) -> bool
 }
 
 /// Which way a member takes.
-pub(crate) fn goes_onward(
+pub fn goes_onward(
     operation: Operation,
     highest: u32,
     lowest: u32,
@@ -214,7 +213,7 @@ pub(crate) fn goes_onward(
 
 /// What a member does in a step, given the last value of the highest member, and the size of the
 /// group that it is in after it.
-pub(crate) fn does(
+pub fn does(
     operation: Operation,
     highest: u32,
     size: u32,
@@ -261,20 +260,5 @@ pub(crate) fn does(
             Ok(())
         }
         _ => Ok(()),
-    }
-}
-
-/// How the members of a processor's node act after a step, in which the processor took one of its
-/// ways.
-pub(crate) fn mode_after(operation: Operation, onward: bool, is_root: bool, mode: Mode) -> Mode {
-    match operation {
-        Operation::Split(SplitKind::IfElse) | Operation::Meet(true) => Mode::Group,
-        Operation::Begin | Operation::Shrink | Operation::Split(_) => {
-            if onward { Mode::Group } else { Mode::Apart }
-        }
-        Operation::Farm | Operation::End => Mode::Apart,
-        Operation::Seq => Mode::Alone,
-        Operation::Resume => { if is_root { Mode::Apart } else { Mode::Group } }
-        _ => mode,
     }
 }

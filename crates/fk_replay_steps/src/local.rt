@@ -8,7 +8,7 @@ ghost use Rattle.fk_meaning.specs.Local as l;
 ghost use Rattle.fk_meaning_store.specs.Store as memory;
 ghost use Rattle.fk_meaning_store.specs.Serve as served;
 ghost use Rattle.fk_meaning_state.specs.View.{processor_of, setting_of};
-ghost use Rattle.fk_replay.specs.Steps.{CanGiveBack, GivesBack};
+ghost use Rattle.fk_replay_steps.specs.Steps.{CanGiveBack, GivesBack};
 
 use crate::values::{drop_last, last, push, put_last, put_word, value_before, word_in};
 use fk_meaning_operation::{Operation, OwnValue, Unary, Variable};
@@ -29,14 +29,14 @@ const PRIVATE_WORDS: u32 = 16_384;
 const WORD_BYTES: u32 = 4;
 
 /// The address of a word of shared data.
-pub(crate) fn address_of(index: u32) -> u32
+pub fn address_of(index: u32) -> u32
     ensures { result ≡ word (memory.address_of index) }
 {
     SHARED.wrapping_add(index.wrapping_mul(WORD_BYTES))
 }
 
 /// The number of words of a size in bytes, which is read as a signed number.
-pub(crate) fn words_of(bytes: u32) -> u32
+pub fn words_of(bytes: u32) -> u32
     ensures { result ≡ served.words_of bytes }
 {
     if bytes < 1 << 31 {
@@ -179,7 +179,7 @@ fn leave(processor: &mut Processor, gives: bool, framed: bool) -> Result<(), All
 }
 
 /// Whether a local operation takes its first way.
-pub(crate) fn is_onward(operation: Operation, processor: &Processor) -> bool
+pub fn is_onward(operation: Operation, processor: &Processor) -> bool
     ensures { result ≡ l.is_onward operation (processor_of processor.now) }
 {
     match operation {
@@ -189,7 +189,7 @@ pub(crate) fn is_onward(operation: Operation, processor: &Processor) -> bool
 }
 
 /// Does a local operation.
-pub(crate) fn do_local(
+pub fn do_local(
     setting: Setting,
     operation: Operation,
     processor: &mut Processor,

@@ -2,7 +2,7 @@
 
 ghost use Rattle.std.specs.Prelude.{◌≡◌, ◌^◌, ◌<◌, List, ℕ, [], length, IfSome, option_map};
 ghost use Rattle.fk_core.specs.Next as n;
-ghost use Rattle.fk_replay.specs.Steps.{step_at};
+ghost use Rattle.fk_replay_steps.specs.Steps.{step_at};
 
 use fk_core::CoreOp;
 use fk_core_list::follows;
@@ -10,11 +10,11 @@ use fk_meaning_operation::Operation;
 
 /// An operation that is due: its index in the list, its site and its target.
 #[derive(Clone, Copy)]
-pub(crate) struct Due {
-    pub(crate) operation: Operation,
-    pub(crate) at: u32,
-    pub(crate) site: u32,
-    pub(crate) target: u32,
+pub struct Due {
+    pub operation: Operation,
+    pub at: u32,
+    pub site: u32,
+    pub target: u32,
 }
 
 /// The index to which jumps lead from an index on.
@@ -32,7 +32,7 @@ fn landing(ops: &[CoreOp], from: u32) -> u32
 }
 
 /// The first operation to which jumps lead from an index, if there is one.
-pub(crate) fn due_at(ops: &[CoreOp], from: u32) -> Option<Due>
+pub fn due_at(ops: &[CoreOp], from: u32) -> Option<Due>
     // This holds whatever calls wait.
     ensures due { (callers : List ℕ) →
         option_map (step_at ops.now callers) result ≡ n.next ops.now (n.position from callers) }
@@ -49,7 +49,7 @@ pub(crate) fn due_at(ops: &[CoreOp], from: u32) -> Option<Due>
 }
 
 /// The index where an operation goes on, if it neither begins nor ends a call.
-pub(crate) fn next_index(ops: &[CoreOp], due: Due, onward: bool) -> u32
+pub fn next_index(ops: &[CoreOp], due: Due, onward: bool) -> u32
     requires within { due.at < length ops.now }
     requires few { length ops.now < 2 ^ 32 }
     ensures { result ≡ (n.follows ops.now due.operation due.at due.target [] onward).at }

@@ -8,8 +8,8 @@ use Rattle.fk_meaning.specs.Round.{Step, Runner}
 use Rattle.fk_meaning_state.specs.View.{processor_of}
 use Rattle.fk_core.specs.declared.op.CoreOp.{CoreOp}
 use Rattle.fk_core.specs.Next.{Position, position, follows}
-use Rattle.fk_replay.specs.declared.list.Due.{Due}
-use Rattle.fk_replay.specs.declared.runner.Runner as code
+use Rattle.fk_replay_steps.specs.declared.list.Due.{Due}
+use Rattle.fk_replay_steps.specs.declared.runner.Runner as code
 
 -- the step of an operation that is due in a call for which others wait
 abbrev pub step_at : List CoreOp → (callers : List ℕ) → Due → Step Position
