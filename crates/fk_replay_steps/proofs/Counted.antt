@@ -21,7 +21,9 @@ count-set {X} p xs i x y e =
 none_counted : {X : Type 0} (p : X → Bool) (xs : List X) → count_by p xs ≡ 0
     → (i : ℕ) (x : X) → slice_get xs i ≡ Some x → p x ≡ false
 none_counted p [] none i x e = absurd (cc)
-none_counted {X} p (y ∷ xs) none i x e = at i e (split (p y) refl)
+none_counted {X} p (y ∷ xs) none i x e =
+    let both = split (p y) refl in
+    at i e both.0 (λ j f. none_counted p xs both.1 j x f)
   where
     more : count_by p (y ∷ xs) ≡ number (p y) + count_by p xs
     more = sum_by-cons (λ z. cond (p z) 1 0) y xs
@@ -30,9 +32,9 @@ none_counted {X} p (y ∷ xs) none i x e = at i e (split (p y) refl)
     split true is = let n : number (p y) ≡ 1 = ap number is in absurd (omega (arith, more, none, n))
     split false is = let n : number (p y) ≡ 0 = ap number is in (is, omega (arith, more, none, n))
 
-    at : (i : ℕ) → slice_get (y ∷ xs) i ≡ Some x → (p y ≡ false) × (count_by p xs ≡ 0) → p x ≡ false
-    at zero e both = let same : y ≡ x = cc in subst (λ (z : X). p z ≡ false) same both.0
-    at (suc i) e both = none_counted p xs both.1 i x e
+    at : (i : ℕ) → slice_get (y ∷ xs) i ≡ Some x → p y ≡ false → ((j : ℕ) → slice_get xs j ≡ Some x → p x ≡ false) → p x ≡ false
+    at zero e is rest = let same : y ≡ x = cc in subst (λ (z : X). p z ≡ false) same is
+    at (suc i) e is rest = rest i e
 
 count_none : {X : Type 0} (p : X → Bool) (xs : List X) → ((i : ℕ) (x : X) → slice_get xs i ≡ Some x → p x ≡ false) → count_by p xs ≡ 0
 count_none p [] none = refl

@@ -69,7 +69,7 @@ pub fn stays(processor: &Processor) -> bool
 }
 
 /// Whether a `start` takes a processor.
-pub fn is_taken(value: u32, processor: &Processor) -> bool
+pub(crate) fn is_taken(value: u32, processor: &Processor) -> bool
     ensures { result ≡ g.is_taken value (processor_of processor.now) }
 {
     processor.number < not_negative(value)

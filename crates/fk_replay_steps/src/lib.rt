@@ -9,10 +9,10 @@ mod request;
 mod runner;
 mod values;
 
-pub use group::{does, goes_onward, has_room, is_taken, not_negative, part, parts, stays};
-pub use list::{Due, due_at, next_index};
+pub use group::{does, goes_onward, has_room, not_negative, part, parts, stays};
+pub use list::{Due, due_at};
 pub use local::{do_local, is_onward};
 pub use pace::Pace;
 pub use request::do_request;
-pub use runner::{Mode, Runner, class_of};
+pub use runner::{Runner, class_of};
 pub use values::last;

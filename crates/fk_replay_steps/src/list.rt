@@ -49,7 +49,7 @@ pub fn due_at(ops: &[CoreOp], from: u32) -> Option<Due>
 }
 
 /// The index where an operation goes on, if it neither begins nor ends a call.
-pub fn next_index(ops: &[CoreOp], due: Due, onward: bool) -> u32
+pub(crate) fn next_index(ops: &[CoreOp], due: Due, onward: bool) -> u32
     requires within { due.at < length ops.now }
     requires few { length ops.now < 2 ^ 32 }
     ensures { result ≡ (n.follows ops.now due.operation due.at due.target [] onward).at }

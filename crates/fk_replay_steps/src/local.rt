@@ -29,14 +29,14 @@ const PRIVATE_WORDS: u32 = 16_384;
 const WORD_BYTES: u32 = 4;
 
 /// The address of a word of shared data.
-pub fn address_of(index: u32) -> u32
+pub(crate) fn address_of(index: u32) -> u32
     ensures { result ≡ word (memory.address_of index) }
 {
     SHARED.wrapping_add(index.wrapping_mul(WORD_BYTES))
 }
 
 /// The number of words of a size in bytes, which is read as a signed number.
-pub fn words_of(bytes: u32) -> u32
+pub(crate) fn words_of(bytes: u32) -> u32
     ensures { result ≡ served.words_of bytes }
 {
     if bytes < 1 << 31 {

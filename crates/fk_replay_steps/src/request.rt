@@ -1,12 +1,12 @@
 //! Requests.
 
-ghost use Rattle.std.specs.Prelude.{◌≡◌, ◌+◌, ◌^◌, ◌<◌, IfOk, OnOk, vec_len};
+ghost use Rattle.std.specs.Prelude.{◌≡◌, ◌+◌, ◌^◌, ◌<◌, IfOk, OnOk, reverse, slice_index, vec_len};
 ghost use Rattle.fk_meaning_store.specs.View.{store_of, processors_of};
 ghost use Rattle.fk_meaning.specs.Request as r;
 ghost use Rattle.fk_meaning_state.specs.View.{processor_of};
 ghost use Rattle.fk_replay_steps.specs.Served.{CanAsk, IsServed};
 
-use crate::values::{drop_last, last, put_last, put_word, value_before};
+use crate::values::{drop_last, last, put_last, value_before};
 use fk_meaning_operation::{FaultKind, Operation};
 use fk_meaning_state::{Call, Processor};
 use fk_meaning_store::{Request, Store32, serve};
@@ -38,17 +38,25 @@ fn request_of(operation: Operation, processor: &Processor) -> Request
     }
 }
 
+/// The first private words of a call, which are the last `count` values in their order. Words for
+/// values that aren't there are 0.
+fn arguments(alloc: Global, values: &[u32], count: usize) -> Result<Vec<u32>, AllocError>
+    ensures { IfOk result (λ words.
+        slice_index words.items ≡ r.arguments count (reverse values.now)) }
+{
+    let left = values.len().saturating_sub(count);
+    let mut words = vec![in alloc; 0; count - (values.len() - left)]?;
+    words.extend_from_slice(&values[left..])?;
+    Ok(words)
+}
+
 /// Begins a call: its arguments become its first private words.
 fn enter(alloc: Global, processor: &mut Processor, count: u32) -> Result<(), AllocError>
     ensures { OnOk result (processor_of processor.new
         ≡ r.entered count (processor_of processor.old)) }
 {
-    let mut privates = Vec::new(alloc);
-    for at in (0..count).rev() {
-        if let Some(value) = processor.call.values.pop() {
-            put_word(&mut privates, at, value)?;
-        }
-    }
+    let privates = arguments(alloc, &processor.call.values, count as usize)?;
+    drop_last(processor, count as usize);
     let call = Call {
         values: Vec::new(alloc),
         privates,

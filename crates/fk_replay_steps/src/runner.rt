@@ -11,24 +11,12 @@ use fk_meaning_operation::{Class, Operation};
 use fk_meaning_state::Processor;
 use std::alloc::AllocError;
 
-/// How the members of a processor's node act.
-#[derive(Clone, Copy, PartialEq, Eq)]
-pub enum Mode {
-    /// As a group in lockstep.
-    Group,
-    /// By themselves, or they wait for parts.
-    Apart,
-    /// The lowest by itself, in the body of a `seq`.
-    Alone,
-}
-
 /// A processor, the index of its next operation, and the indices to which its calls return, the
 /// last call's last.
 #[derive(Drop)]
 pub struct Runner {
     pub at: u32,
     pub returns: Vec<u32>,
-    pub mode: Mode,
     pub processor: Processor,
 }
 
@@ -62,7 +50,6 @@ impl Runner {
         ensures left { OnOk result (position_of self.new
             ≡ (step_at ops.now (callers_of self.old) due).rest onward) }
         ensures processor { OnOk result (self.new.processor ≡ self.old.processor) }
-        ensures mode { OnOk result (self.new.mode ≡ self.old.mode) }
     {
         match due.operation {
             Operation::Leave { .. } | Operation::Halt => {

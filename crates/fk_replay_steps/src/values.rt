@@ -10,7 +10,7 @@ use std::alloc::AllocError;
 
 /// The value before the last `count` ones, or 0.
 #[tactic(auto, using(crate::proofs::Ends::there, crate::proofs::Ends::none))]
-pub fn value_before(processor: &Processor, count: usize) -> u32
+pub(crate) fn value_before(processor: &Processor, count: usize) -> u32
     ensures { result ≡ p.last (p.before count (p.values (processor_of processor.now))) }
 {
     let values = &processor.call.values;
@@ -30,7 +30,7 @@ pub fn last(processor: &Processor) -> u32
 
 /// Removes the last `count` values.
 #[tactic(auto, using(crate::proofs::Ends::before_last))]
-pub fn drop_last(processor: &mut Processor, count: usize)
+pub(crate) fn drop_last(processor: &mut Processor, count: usize)
     ensures { processor_of processor.new ≡ p.drop_last count (processor_of processor.old) }
 {
     let left = processor.call.values.len().saturating_sub(count);
@@ -39,7 +39,7 @@ pub fn drop_last(processor: &mut Processor, count: usize)
 
 /// Adds a value.
 #[tactic(auto, using(crate::proofs::Ends::reverse_end))]
-pub fn push(processor: &mut Processor, value: u32) -> Result<(), AllocError>
+pub(crate) fn push(processor: &mut Processor, value: u32) -> Result<(), AllocError>
     ensures { OnOk result
         (processor_of processor.new ≡ p.push value (processor_of processor.old)) }
 {
@@ -48,7 +48,7 @@ pub fn push(processor: &mut Processor, value: u32) -> Result<(), AllocError>
 }
 
 /// Replaces the last value.
-pub fn put_last(processor: &mut Processor, value: u32) -> Result<(), AllocError>
+pub(crate) fn put_last(processor: &mut Processor, value: u32) -> Result<(), AllocError>
     ensures { OnOk result
         (processor_of processor.new ≡ p.in_place value (processor_of processor.old)) }
 {
@@ -57,7 +57,7 @@ pub fn put_last(processor: &mut Processor, value: u32) -> Result<(), AllocError>
 }
 
 /// A word of a memory whose other words are 0.
-pub fn word_in(memory: &[u32], index: u32) -> u32
+pub(crate) fn word_in(memory: &[u32], index: u32) -> u32
     ensures { result ≡ slice_index memory.now index }
 {
     match memory.get(index as usize) {
@@ -67,13 +67,13 @@ pub fn word_in(memory: &[u32], index: u32) -> u32
 }
 
 /// Replaces a word of a memory whose other words are 0.
-pub fn put_word(memory: &mut Vec<u32>, index: u32, word: u32) -> Result<(), AllocError>
+pub(crate) fn put_word(memory: &mut Vec<u32>, index: u32, word: u32) -> Result<(), AllocError>
     ensures { OnOk result (slice_index memory.new.items
         ≡ put (slice_index memory.old.items) index word) }
 {
     let place = index as usize;
-    for _ in memory.len()..place + 1 {
-        memory.push(0)?;
+    if memory.len() <= place {
+        memory.resize(place + 1, 0)?;
     }
     memory[place] = word;
     Ok(())
