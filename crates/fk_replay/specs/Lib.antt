@@ -1,12 +1,5 @@
 pub mod Answers
 pub mod Laws
-pub mod Steps
-pub mod Served
-pub mod Own
-pub mod Safe
-pub mod Present
-pub mod Actors
-pub mod Modes
-pub mod Fits
+pub mod Ranges
 pub mod Steady
 pub mod Replay

@@ -10,7 +10,7 @@ use Rattle.fk_core.specs.Next.{Position, next, landing}
 use Rattle.fk_lockstep_nodes.specs.Steps.{stepping}
 use Rattle.fk_lockstep_tree.specs.Steps.{AreKnown}
 use Rattle.fk_lockstep_tree.specs.Runs.{StandsInTree}
-use Rattle.fk_replay.specs.Safe.{AreSafe}
+use Rattle.fk_replay_phases.specs.Safe.{AreSafe}
 
 module _ (core : List CoreOp) (set : Setting) where
   -- The processors stand in the tree and are safe. In each possible round at each node nobody

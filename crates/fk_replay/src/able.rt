@@ -1,11 +1,10 @@
 //! Who could act.
 
-use crate::acting::Acting;
-use crate::actor::Actor;
-use crate::run::{Arrived, Run, joint_of};
-use crate::runner::Mode;
+use crate::run::{Arrived, Run};
 use fk_core::CoreOp;
 use fk_meaning_operation::Joint;
+use fk_replay_phases::{Acting, Actor, joint_of};
+use fk_replay_rounds::Mode;
 
 /// Nobody stands any longer at a joint operation that is being done.
 fn forget(joint: Joint, arrived: &mut Arrived) {

@@ -5,25 +5,16 @@
 #![tactic(auto)]
 
 mod able;
-mod acting;
-mod actor;
 mod end;
-mod fits;
-mod group;
+mod enlist;
 pub mod laws;
-mod list;
-mod local;
-mod pace;
-mod phases;
+mod modes;
 mod replay;
-mod request;
 mod rounds;
 mod run;
-mod runner;
 mod steps;
 #[cfg(test)]
 mod tests;
-mod values;
 
 pub use end::{End, Replayed};
 pub use fk_replay_text::{Acts, Moment, ReplayFault, Trace, read_trace};

@@ -1,26 +1,18 @@
 //! How the members of a node act after a step.
 
-use fk_meaning_operation::Operation;
-use fk_meaning_state::Processor;
-use fk_replay_steps::{Mode, part};
+use fk_meaning_operation::{Operation, SplitKind};
+use fk_replay_rounds::Mode;
 
-/// Whether a member enters or keeps a group in a step, which it leaves on one of its ways.
-pub(crate) fn enters(operation: Operation, onward: bool, processor: &Processor) -> bool {
+/// How the members of a processor's node act after a step, in which the processor took one of its
+/// ways.
+pub(crate) fn mode_after(operation: Operation, onward: bool, is_root: bool, mode: Mode) -> Mode {
     match operation {
-        Operation::Split(by) => part(by, processor).is_some(),
-        _ => onward,
-    }
-}
-
-/// How the members of a processor's node act after a step.
-pub(crate) fn mode_after(operation: Operation, enters: bool, is_root: bool, mode: Mode) -> Mode {
-    match operation {
+        Operation::Split(SplitKind::IfElse) | Operation::Meet(true) => Mode::Group,
         Operation::Begin | Operation::Shrink | Operation::Split(_) => {
-            if enters { Mode::Group } else { Mode::Apart }
+            if onward { Mode::Group } else { Mode::Apart }
         }
         Operation::Farm | Operation::End => Mode::Apart,
         Operation::Seq => Mode::Alone,
-        Operation::Meet(true) => Mode::Group,
         Operation::Resume => { if is_root { Mode::Apart } else { Mode::Group } }
         _ => mode,
     }

@@ -1,11 +1,11 @@
 //! Rounds.
 
 use crate::able::forget_all;
-use crate::acting::{dismiss, enlist};
-use crate::phases::{Fault, begin_all, do_requests};
+use crate::enlist::enlist;
 use crate::run::Run;
 use crate::steps::{change_all, settle_all};
 use fk_core::CoreOp;
+use fk_replay_phases::{Fault, all_fit, begin_all, dismiss, do_requests};
 use fk_replay_text::Acts;
 use std::alloc::AllocError;
 
@@ -37,13 +37,18 @@ impl Run {
         }
     }
 
+    /// Whether all who act fit together, if those above a last one act wherever they are needed.
+    fn fit(&self, ops: &[CoreOp], last: u32) -> bool {
+        all_fit(ops, &self.tree, &self.counts, &self.actors, &self.acting, last)
+    }
+
     /// A round with a fault is stopped, or not possible.
     fn stop(&self, ops: &[CoreOp], fault: Fault) -> Outcome {
         let is_last = self
             .acting
             .last()
             .is_some_and(|acting| acting.number == fault.processor);
-        if is_last && self.all_fit(ops, fault.processor) {
+        if is_last && self.fit(ops, fault.processor) {
             Outcome::Stopped(fault)
         } else {
             Outcome::NotPossible
@@ -52,7 +57,7 @@ impl Run {
 
     /// A round without a fault is possible if all who act fit together. They do their steps.
     fn step(&mut self, ops: &[CoreOp]) -> Result<Outcome, AllocError> {
-        if !self.all_fit(ops, u32::MAX) {
+        if !self.fit(ops, u32::MAX) {
             return Ok(Outcome::NotPossible);
         }
         change_all(self.alloc, &self.acting, &self.actors, &mut self.tree)?;

@@ -1,11 +1,10 @@
 //! The steps of the tree.
 
-use crate::acting::Acting;
-use crate::actor::Actor;
-use crate::group::{does, goes_onward, mode_after, not_negative, part, parts, stays};
-use crate::values::last;
+use crate::modes::mode_after;
 use fk_core::CoreOp;
 use fk_meaning_operation::{Operation, SplitKind};
+use fk_replay_phases::{Acting, Actor};
+use fk_replay_steps::{does, goes_onward, last, not_negative, part, parts, stays};
 use fk_tree::Tree;
 use std::alloc::{AllocError, Global};
 
@@ -104,7 +103,7 @@ fn settle(
     let processor = &mut actor.runner.processor;
     let onward = goes_onward(due.operation, highest, acting.lowest, processor);
     does(due.operation, highest, size, processor)?;
-    actor.runner.mode = mode_after(due.operation, onward, acting.node == 0, actor.runner.mode);
+    actor.mode = mode_after(due.operation, onward, acting.node == 0, actor.mode);
     actor.runner.pass(ops, due, onward)?;
     actor.taken = None;
     Ok(())
