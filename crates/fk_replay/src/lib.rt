@@ -8,11 +8,9 @@ mod able;
 mod end;
 mod enlist;
 pub mod laws;
-mod modes;
 mod replay;
 mod rounds;
 mod run;
-mod steps;
 #[cfg(test)]
 mod tests;
 

@@ -3,10 +3,10 @@
 use crate::able::forget_all;
 use crate::enlist::enlist;
 use crate::run::Run;
-use crate::steps::{change_all, settle_all};
 use fk_core::CoreOp;
 use fk_replay_phases::{Fault, all_fit, begin_all, dismiss, do_requests};
 use fk_replay_text::Acts;
+use fk_replay_trees::{change_all, settle_all};
 use std::alloc::AllocError;
 
 /// What a round is.

@@ -1,5 +1,6 @@
 -- The processors of a round, and their counts.
 use Rattle.std.specs.Prelude.{◌≡◌, ℕ, zero, suc, ◌<◌, List, [], ◌∷◌, length, map, slice_index}
+use Rattle.std.specs.Prelude.{Some, slice_get}
 use Rattle.fk_tree.specs.Tree as t
 use Rattle.fk_meaning.specs.Round.{Round, lowest, highest}
 use Rattle.fk_replay_phases.specs.declared.acting.Acting.{Acting}
@@ -34,3 +35,7 @@ all_acting tree numbers = map (acting_at tree) numbers
 
 abbrev pub numbers_of : List Acting → List ℕ
 numbers_of acting = map (λ a. a.number) acting
+
+-- the highest members are processors
+pub record AreHighBelow (processors : ℕ) (acting : List Acting) : Type 0 where
+  pub each : (i : ℕ) (x : Acting) → slice_get acting i ≡ Some x → x.highest < processors
