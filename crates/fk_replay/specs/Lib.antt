@@ -2,4 +2,5 @@ pub mod Answers
 pub mod Laws
 pub mod Ranges
 pub mod Steady
+pub mod Taken
 pub mod Replay

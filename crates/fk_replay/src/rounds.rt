@@ -1,5 +1,14 @@
 //! Rounds.
 
+ghost use Rattle.std.specs.Prelude.{◌≡◌, ◌+◌, ◌^◌, ◌<◌, ◌≤◌, map, length, IfOk};
+ghost use Rattle.fk_tree.specs.View.{tree_of, processors};
+ghost use Rattle.fk_meaning_state.specs.View.{setting_of};
+ghost use Rattle.fk_replay_text.specs.View.{range_of};
+ghost use Rattle.fk_replay_text.specs.Rounds.{round_of};
+ghost use Rattle.fk_replay.specs.Ranges.{AreRanges};
+ghost use Rattle.fk_replay.specs.Steady.{IsSteady};
+ghost use Rattle.fk_replay.specs.Taken.{IsRun, state_of, IsTaken};
+
 use crate::able::forget_all;
 use crate::enlist::enlist;
 use crate::run::Run;
@@ -24,9 +33,23 @@ impl Run {
         &mut self,
         ops: &[CoreOp],
         acts: &[Acts],
-    ) -> Result<Outcome, AllocError> {
+    ) -> Result<Outcome, AllocError>
+        requires few { length ops.now < 2 ^ 32 }
+        requires run { IsRun self.old }
+        requires ranges { AreRanges (processors self.old.tree) (map range_of acts.now) }
+        requires steady { IsSteady ops.now (setting_of self.old.setting) (state_of self.old) }
+        requires given { (tree_of self.old.tree).given + 2 ^ 28 ≤ 2 ^ 63 }
+        ensures taken { IfOk result (IsTaken ops.now
+            (round_of (processors self.old.tree) (map range_of acts.now)) self.old self.new) }
+    {
         enlist(&self.tree, acts, &mut self.counts, &mut self.acting)?;
-        let begun = begin_all(self.setting, ops, &self.acting, &self.counts, &mut self.actors)?;
+        let begun = begin_all(
+            self.setting,
+            ops,
+            &self.acting,
+            &self.counts,
+            &mut self.actors,
+        )?;
         if !begun {
             return Ok(Outcome::NotPossible);
         }
@@ -39,7 +62,14 @@ impl Run {
 
     /// Whether all who act fit together, if those above a last one act wherever they are needed.
     fn fit(&self, ops: &[CoreOp], last: u32) -> bool {
-        all_fit(ops, &self.tree, &self.counts, &self.actors, &self.acting, last)
+        all_fit(
+            ops,
+            &self.tree,
+            &self.counts,
+            &self.actors,
+            &self.acting,
+            last,
+        )
     }
 
     /// A round with a fault is stopped, or not possible.

@@ -9,7 +9,7 @@ use Rattle.fk_core.specs.Next.{Position, next}
 use Rattle.fk_replay_steps.specs.Steps.{step_at, callers_of, runner_of}
 use Rattle.fk_replay_phases.specs.Safe.{IsAbout, IsSafeRunner, AreSafe}
 use Rattle.fk_replay_phases.specs.Present.{present, numbers_of}
-use Rattle.fk_replay_phases.specs.Actors.{IsDue, AreDue, acting_of, actings_of, runners_of, modes_of, asked, BeganAs, HasBegun, HaveBegun, HaveNone, HasDoneOne, HasDoneLocals}
+use Rattle.fk_replay_phases.specs.Actors.{IsDue, CanBeAsked, CanAllBeAsked, acting_of, actings_of, runners_of, modes_of, asked, BeganAs, HasBegun, HaveBegun, HaveNone, HasDoneOne, HasDoneLocals}
 use Rattle.fk_replay_phases.specs.declared.acting.Acting.{Acting}
 use Rattle.fk_replay_phases.specs.declared.actor.Actor.{Actor}
 use Rattle.fk_replay_steps.specs.declared.list.Due.{Due}
@@ -68,20 +68,23 @@ module _ (core : List CoreOp) (set : Setting) where
   -- the processor with a number has begun
   pub record Began (round : Round) (old : List Actor) (h : ℕ) (x : Actor) : Type 0 where
     pub from : (a : Actor) → slice_get old h ≡ Some a → BeganAs core set (slice_index round h) a x
-    pub due : IsDue core x
+    pub asks : CanBeAsked core x
 
   taken_none : (a : Actor) → a.taken ≡ None → acting_of core a ≡ asked core set 0 (runner_of a.runner)
   taken_none a none = ap (λ o. record { due = option_map (step_at core (callers_of a.runner)) o; runner = runner_of a.runner }) none
 
-  pub free_due : (a : Actor) → a.taken ≡ None → IsDue core a
-  free_due a none = record { within = λ due e. absurd (no due e); class = λ due e. absurd (no due e) }
+  pub free_asks : (a : Actor) → a.taken ≡ None → CanBeAsked core a
+  free_asks a none = record {
+    due = record { within = λ due e. absurd (no due e); class = λ due e. absurd (no due e) };
+    known = λ due e. absurd (no due e);
+  }
     where
       no : (due : Due) → a.taken ≡ Some due → ⊥
       no due e = cc
 
   -- who isn't in the round has nothing to do
   pub absent : (round : Round) (old : List Actor) → HaveNone old → (h : ℕ) (x : Actor) → slice_get old h ≡ Some x → slice_index round h ≡ 0 → Began round old h x
-  absent round old none h x is zero_count = record { from = λ a at. let same : x ≡ a = cc in subst (λ (y : Actor). BeganAs core set (slice_index round h) y x) same (here x (none.none h x is)); due = free_due x (none.none h x is) }
+  absent round old none h x is zero_count = record { from = λ a at. let same : x ≡ a = cc in subst (λ (y : Actor). BeganAs core set (slice_index round h) y x) same (here x (none.none h x is)); asks = free_asks x (none.none h x is) }
     where
       here : (a : Actor) → a.taken ≡ None → BeganAs core set (slice_index round h) a a
       here a free = subst (λ (c : ℕ). BeganAs core set c a a) (sym zero_count) (record { may = refl; begun = taken_none a free; mode = refl })
@@ -109,7 +112,7 @@ module _ (core : List CoreOp) (set : Setting) where
                 let same : Some b ≡ Some a = sym there ∙ sym (at.so.rest x.number ahead.next.1.low) ∙ here in
                 let b_is : b ≡ a = cc in
                 subst (λ (y : Actor). BeganAs core set (slice_index round x.number) y new) (sym b_is)
-                (record { may = sym has.whether; begun = has.begun refl; mode = has.mode refl }); due = has.due refl });
+                (record { may = sym has.whether; begun = has.begun refl; mode = has.mode refl }); asks = has.asks refl });
       }
 
   all_may : (round : Round) (old now : List Actor) → length round ≡ length old → length now ≡ length old → ((h : ℕ) (x : Actor) → slice_get now h ≡ Some x → Began round old h x)
@@ -121,7 +124,7 @@ module _ (core : List CoreOp) (set : Setting) where
   all_may (c ∷ round) (a ∷ old) (x ∷ now) many all began =
       let first : may_act (next core) set c (runner_of a.runner) ≡ true = ((began 0 x refl).from a refl).may in
       ap (λ (b : Bool). b && all_may_act (next core) set round (runners_of old)) first
-      ∙ all_may round old now (omega arith) (omega arith) (λ h y is. record { from = λ b there. (began (suc h) y is).from b there; due = (began (suc h) y is).due })
+      ∙ all_may round old now (omega arith) (omega arith) (λ h y is. record { from = λ b there. (began (suc h) y is).from b there; asks = (began (suc h) y is).asks })
 
   all_asked : (round : Round) (old now : List Actor) → length round ≡ length old → length now ≡ length old → ((h : ℕ) (x : Actor) → slice_get now h ≡ Some x → Began round old h x)
       → actings_of core now ≡ asking (next core) set round (runners_of old)
@@ -132,7 +135,7 @@ module _ (core : List CoreOp) (set : Setting) where
   all_asked (c ∷ round) (a ∷ old) [] many all began = absurd (let z : ⊥ = omega arith in z)
   all_asked (c ∷ round) (a ∷ old) (x ∷ now) many all began =
       let first : acting_of core x ≡ asked core set c (runner_of a.runner) = ((began 0 x refl).from a refl).begun in
-      let others = all_asked round old now (omega arith) (omega arith) (λ h y is. record { from = λ b there. (began (suc h) y is).from b there; due = (began (suc h) y is).due }) in
+      let others = all_asked round old now (omega arith) (omega arith) (λ h y is. record { from = λ b there. (began (suc h) y is).from b there; asks = (began (suc h) y is).asks }) in
       ap (λ y. y ∷ actings_of core now) first ∙ ap (λ ys. asked core set c (runner_of a.runner) ∷ ys) others
 
   all_modes : (round : Round) (old now : List Actor) → length now ≡ length old → ((h : ℕ) (x : Actor) → slice_get now h ≡ Some x → Began round old h x)
@@ -142,10 +145,10 @@ module _ (core : List CoreOp) (set : Setting) where
   all_modes round (a ∷ old) [] all began = absurd (let z : ⊥ = omega arith in z)
   all_modes [] (a ∷ old) (x ∷ now) all began =
       let first : x.mode ≡ a.mode = ((began 0 x refl).from a refl).mode in
-      ap (λ y. y ∷ modes_of now) first ∙ ap (λ ys. a.mode ∷ ys) (all_modes [] old now (omega arith) (λ h y is. record { from = λ b there. (began (suc h) y is).from b there; due = (began (suc h) y is).due }))
+      ap (λ y. y ∷ modes_of now) first ∙ ap (λ ys. a.mode ∷ ys) (all_modes [] old now (omega arith) (λ h y is. record { from = λ b there. (began (suc h) y is).from b there; asks = (began (suc h) y is).asks }))
   all_modes (c ∷ round) (a ∷ old) (x ∷ now) all began =
       let first : x.mode ≡ a.mode = ((began 0 x refl).from a refl).mode in
-      ap (λ y. y ∷ modes_of now) first ∙ ap (λ ys. a.mode ∷ ys) (all_modes round old now (omega arith) (λ h y is. record { from = λ b there. (began (suc h) y is).from b there; due = (began (suc h) y is).due }))
+      ap (λ y. y ∷ modes_of now) first ∙ ap (λ ys. a.mode ∷ ys) (all_modes round old now (omega arith) (λ h y is. record { from = λ b there. (began (suc h) y is).from b there; asks = (began (suc h) y is).asks }))
 
   pub begins_end : (round : Round) (acting : List Acting) (old now : List Actor) (i : ℕ) → BeginsAt round acting old i now → HaveNone old → length round ≡ length old → length acting ≤ i
       → HaveBegun core set round old now true
@@ -155,7 +158,7 @@ module _ (core : List CoreOp) (set : Setting) where
         whether = sym (all_may round old now many at.so.many began);
         begun = λ e. all_asked round old now many at.so.many began;
         modes = λ e. all_modes round old now at.so.many began;
-        due = λ e. record { each = λ h x is. (began h x is).due };
+        asks = λ e. record { each = λ h x is. (began h x is).asks };
       }
 
   -- one that can't begin
@@ -184,5 +187,5 @@ module _ (core : List CoreOp) (set : Setting) where
         whether = sym (one_not round old x.number a there ahead.next.1.high (sym has.whether));
         begun = λ e. absurd (let bad : false ≡ true = e in cc);
         modes = λ e. absurd (let bad : false ≡ true = e in cc);
-        due = λ e. absurd (let bad : false ≡ true = e in cc);
+        asks = λ e. absurd (let bad : false ≡ true = e in cc);
       }

@@ -42,6 +42,7 @@ module _ (core : List CoreOp) where
     within = λ due e. absurd (no due e);
     class = λ due e. absurd (no due e);
     room = λ due e. absurd (no due e);
+    few = λ due by e f. absurd (no due e);
   }
     where
       no : (due : Due) → a.taken ≡ Some due → ⊥

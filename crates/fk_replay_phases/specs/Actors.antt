@@ -1,12 +1,14 @@
 -- Processors in a round, before the steps of the tree.
-use Rattle.std.specs.Prelude.{◌≡◌, ◌≢◌, ℕ, ◌<◌, Bool, true, List, Option, Some, None, option_map, map}
+use Rattle.std.specs.Prelude.{◌≡◌, ◌≢◌, ℕ, ◌<◌, ◌≤◌, ◌^◌, Bool, true, List, Option, Some, None, option_map, map}
 use Rattle.std.specs.Prelude.{length, slice_get, slice_index}
 use Rattle.fk_meaning_operation.specs.Kinds.{class_of}
 use Rattle.fk_meaning_operation.specs.declared.kinds.Class.TheVariants.{Local, Tree}
 use Rattle.fk_meaning_store.specs.Store.{Store}
 use Rattle.fk_meaning_state.specs.View.{processor_of}
-use Rattle.fk_meaning.specs.Processor.{Setting}
-use Rattle.fk_meaning.specs.Group.{has_room}
+use Rattle.fk_meaning_operation.specs.declared.operation.SplitKind.{SplitKind}
+use Rattle.fk_meaning_operation.specs.declared.operation.Operation.TheVariants.{Split}
+use Rattle.fk_meaning.specs.Processor.{Setting, values}
+use Rattle.fk_meaning.specs.Group.{has_room, parts}
 use Rattle.fk_meaning.specs.Round as rounds
 use Rattle.fk_meaning.specs.Round.{Step, Acting, Round, after_one, after_locals, are_local}
 use Rattle.fk_meaning.specs.Round.{is_local_next, may_act, all_may_act, local_phase, asking}
@@ -35,6 +37,12 @@ module _ (core : List CoreOp) where
   pub record IsDue (a : Actor) : Type 0 where
     pub within : (due : Due) → a.taken ≡ Some due → due.at < length core
     pub class : (due : Due) → a.taken ≡ Some due → class_of due.operation ≢ Local
+
+  -- the request of an operation that was taken can be served
+  pub record CanBeAsked (a : Actor) : Type 0 where
+    pub due : IsDue a
+    pub known : (due : Due) → a.taken ≡ Some due
+        → CanAsk due.operation (processor_of a.runner.processor)
 
   abbrev pub actings_of : List Actor → List (Acting Position)
   actings_of actors = map acting_of actors
@@ -66,7 +74,7 @@ module _ (core : List CoreOp) (set : Setting) where
     pub whether : can ≡ may_act (next core) set count (runner_of old.runner)
     pub begun : can ≡ true → acting_of core new ≡ asked count (runner_of old.runner)
     pub mode : can ≡ true → new.mode ≡ old.mode
-    pub due : can ≡ true → IsDue core new
+    pub asks : can ≡ true → CanBeAsked core new
 
 -- those who are in a round; the others have taken nothing
 pub record AreInRound (acting : List acts.Acting) (actors : List Actor) : Type 0 where
@@ -76,8 +84,8 @@ pub record AreInRound (acting : List acts.Acting) (actors : List Actor) : Type 0
   pub others : (h : ℕ) (a : Actor) → slice_get actors h ≡ Some a → slice_index round h ≡ 0
       → a.taken ≡ None
 
-pub record AreDue (core : List CoreOp) (actors : List Actor) : Type 0 where
-  pub each : (h : ℕ) (a : Actor) → slice_get actors h ≡ Some a → IsDue core a
+pub record CanAllBeAsked (core : List CoreOp) (actors : List Actor) : Type 0 where
+  pub each : (h : ℕ) (a : Actor) → slice_get actors h ≡ Some a → CanBeAsked core a
 
 module _ (core : List CoreOp) (set : Setting) where
   -- a processor that has begun a round with a count
@@ -91,7 +99,7 @@ module _ (core : List CoreOp) (set : Setting) where
     pub whether : can ≡ all_may_act (next core) set round (runners_of old)
     pub begun : can ≡ true → actings_of core new ≡ asking (next core) set round (runners_of old)
     pub modes : can ≡ true → modes_of new ≡ modes_of old
-    pub due : can ≡ true → AreDue core new
+    pub asks : can ≡ true → CanAllBeAsked core new
 
 -- nobody has taken an operation
 pub record HaveNone (actors : List Actor) : Type 0 where
@@ -100,18 +108,14 @@ pub record HaveNone (actors : List Actor) : Type 0 where
 -- ---- requests
 
 module _ (core : List CoreOp) where
-  -- the request of an operation that was taken can be served
-  pub record CanBeAsked (a : Actor) : Type 0 where
-    pub due : IsDue core a
-    pub known : (due : Due) → a.taken ≡ Some due
-        → CanAsk due.operation (processor_of a.runner.processor)
-
   -- what is still taken is a step of the tree that finds the words that it needs
   pub record IsReady (a : Actor) : Type 0 where
     pub within : (due : Due) → a.taken ≡ Some due → due.at < length core
     pub class : (due : Due) → a.taken ≡ Some due → class_of due.operation ≡ Tree
     pub room : (due : Due) → a.taken ≡ Some due
         → has_room due.operation (processor_of a.runner.processor) ≡ true
+    pub few : (due : Due) (by : SplitKind) → a.taken ≡ Some due → due.operation ≡ Split by
+        → parts by (values (processor_of a.runner.processor)) ≤ 2 ^ 18
 
   -- a processor passes the phase of requests
   pub record HasPassed (old new : Store) (before after : Actor) : Type 0 where
@@ -129,9 +133,6 @@ module _ (core : List CoreOp) where
   abbrev pub HasAsked : (old new : Store) (before after : Actor) → (site : Option ℕ) → Type 0
   HasAsked old new before after None = HasPassed old new before after
   HasAsked old new before after (Some site) = HasBroken old new before after site
-
-  pub record CanAllBeAsked (actors : List Actor) : Type 0 where
-    pub each : (h : ℕ) (a : Actor) → slice_get actors h ≡ Some a → CanBeAsked a
 
   pub record AreReady (actors : List Actor) : Type 0 where
     pub each : (h : ℕ) (a : Actor) → slice_get actors h ≡ Some a → IsReady a

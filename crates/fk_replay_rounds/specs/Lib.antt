@@ -1,3 +1,4 @@
 pub mod Own
 pub mod Modes
 pub mod Fits
+pub mod Stops
