@@ -10,7 +10,7 @@ use fk_core::CoreOp;
 use fk_meaning_operation::{Joint, Operation};
 
 /// What those who do an operation do together.
-pub(crate) fn joint_of(operation: Operation) -> Joint
+pub fn joint_of(operation: Operation) -> Joint
     ensures { result ≡ kinds.joint_of operation }
 {
     match operation {

@@ -1,6 +1,6 @@
 -- If each processor of a round fits to the lowest member of its node, and the lowest member to all,
 -- then all of them fit.
-use Rattle.std.proofs.Common.{◌≡◌, ◌≢◌, ℕ, zero, suc, ◌+◌, ◌<◌, ◌≤◌, Bool, true, false, ◌&&◌, ◌||◌, ◌⊎◌, inl, inr, List, [], ◌∷◌, length, Option, Some, None, ap, refl, sym, ◌∙◌, subst, arith}
+use Rattle.std.proofs.Common.{◌≡◌, ◌≢◌, ℕ, zero, suc, ◌+◌, ◌-◌, ◌<◌, ◌≤◌, Bool, true, false, ◌&&◌, ◌||◌, ◌⊎◌, inl, inr, List, [], ◌∷◌, length, Option, Some, None, ap, refl, sym, ◌∙◌, subst, arith}
 use Rattle.std.specs.Prelude.{◌==◌, nat_lt, nat_le, slice_index, if◌then◌else◌, is_none}
 use Rattle.std.specs.List.{list_all}
 use Rattle.fk_tree.specs.Tree as t
@@ -11,6 +11,7 @@ use Rattle.fk_tree.specs.declared.node.Kind.TheVariants.{Lockstep, Waiting, Asyn
 use Rattle.fk_meaning_operation.specs.declared.kinds.Joint.{Joint}
 use Rattle.fk_meaning_operation.specs.declared.kinds.Joint.TheVariants.{Alone, Starting, AtBarrier, Closing, Resuming}
 use Rattle.fk_meaning.specs.Round.{Round, same_joint, lowest, body_of}
+use Rattle.fk_replay_rounds.specs.declared.mode.Mode.TheVariants.{Apart}
 use Rattle.fk_replay_rounds.specs.Modes.{mode_of}
 use Rattle.fk_replay_rounds.specs.Fits.{one_joins, all_join, all_have, joins_below, fits_kind_below, fits_below, all_fit_below, joins_lowest, joins_by, fits_by, AreThere, FitByLowest, IsFitByLowest, LowestMembersTell}
 
@@ -36,14 +37,11 @@ lt_false a b le = grind arith
 
 pub list_all_at : (P : ℕ → Bool) (ms : List ℕ) (h : ℕ) → list_all P ms ≡ true → is_member h ms ≡ true → P h ≡ true
 list_all_at P [] h all is = absurd (let bad : false ≡ true = is in cc)
-list_all_at P (m ∷ ms) h all is = by (bool_cases (h == m))
+list_all_at P (m ∷ ms) h all is = by (bool_cases (h == m)) (λ later. list_all_at P ms h (and_true (P m) (list_all P ms) all).1 later)
   where
-    parts : (P m ≡ true) × (list_all P ms ≡ true)
-    parts = and_true (P m) (list_all P ms) all
-
-    by : ((h == m) ≡ true) ⊎ ((h == m) ≡ false) → P h ≡ true
-    by (inl e) = ap P (eq_of h m e) ∙ parts.0
-    by (inr e) = list_all_at P ms h parts.1 (sym (ap (λ (b : Bool). b || is_member h ms) e) ∙ is)
+    by : ((h == m) ≡ true) ⊎ ((h == m) ≡ false) → (is_member h ms ≡ true → P h ≡ true) → P h ≡ true
+    by (inl e) more = ap P (eq_of h m e) ∙ (and_true (P m) (list_all P ms) all).0
+    by (inr e) more = more (sym (ap (λ (b : Bool). b || is_member h ms) e) ∙ is)
 
 -- ---- members
 
@@ -53,7 +51,7 @@ member_lowest (m ∷ ms) h is = ap (λ (b : Bool). b || is_member m ms) (eq_to m
 
 above_all : (m : ℕ) (ms : List ℕ) (h : ℕ) → is_below_all m ms ≡ true → is_member h ms ≡ true → m < h
 above_all m [] h below is = absurd (let bad : false ≡ true = is in cc)
-above_all m (g ∷ gs) h below is = by (bool_cases (h == g))
+above_all m (g ∷ gs) h below is = by (bool_cases (h == g)) (λ later. above_all m gs h (and_true (nat_lt m g) (is_below_all m gs) below).1 later)
   where
     parts : (nat_lt m g ≡ true) × (is_below_all m gs ≡ true)
     parts = and_true (nat_lt m g) (is_below_all m gs) below
@@ -61,9 +59,9 @@ above_all m (g ∷ gs) h below is = by (bool_cases (h == g))
     less : (a b : ℕ) → nat_lt a b ≡ true → a < b
     less a b e = grind arith
 
-    by : ((h == g) ≡ true) ⊎ ((h == g) ≡ false) → m < h
-    by (inl e) = let same = eq_of h g e in let l = less m g parts.0 in omega arith
-    by (inr e) = above_all m gs h parts.1 (sym (ap (λ (b : Bool). b || is_member h gs) e) ∙ is)
+    by : ((h == g) ≡ true) ⊎ ((h == g) ≡ false) → (is_member h gs ≡ true → m < h) → m < h
+    by (inl e) more = let same = eq_of h g e in let l = less m g parts.0 in omega arith
+    by (inr e) more = more (sym (ap (λ (b : Bool). b || is_member h gs) e) ∙ is)
 
 pub lowest_below : (ms : List ℕ) (h : ℕ) → is_ascending ms ≡ true → is_member h ms ≡ true → lowest ms ≤ h
 lowest_below [] h up is = absurd (let bad : false ≡ true = is in cc)
@@ -94,7 +92,7 @@ leaf_alone tree n alone e = record { none = λ m is. absurd (let bad : false ≡
 
 ended_one : (tree : t.Tree) (first parts k : ℕ) → have_ended tree first parts ≡ true → k < parts → tree.nodes (first + k) ≡ None
 ended_one tree first zero k e lt = absurd (let z : ⊥ = omega arith in z)
-ended_one tree first (suc j) k e lt = by (or_last k j lt)
+ended_one tree first (suc j) k e lt = by (or_last k j lt) (λ low. ended_one tree first j k (and_true (has_ended tree (first + j)) (have_ended tree first j) e).1 low)
   where
     parts_of : (has_ended tree (first + j) ≡ true) × (have_ended tree first j ≡ true)
     parts_of = and_true (has_ended tree (first + j)) (have_ended tree first j) e
@@ -106,9 +104,9 @@ ended_one tree first (suc j) k e lt = by (or_last k j lt)
     none None is = refl
     none (Some node) is = absurd (let bad : false ≡ true = is in cc)
 
-    by : (k < j) ⊎ (k ≡ j) → tree.nodes (first + k) ≡ None
-    by (inl low) = ended_one tree first j k parts_of.1 low
-    by (inr same) = ap (λ (i : ℕ). tree.nodes (first + i)) same ∙ none (tree.nodes (first + j)) parts_of.0
+    by : (k < j) ⊎ (k ≡ j) → (k < j → tree.nodes (first + k) ≡ None) → tree.nodes (first + k) ≡ None
+    by (inl low) more = more low
+    by (inr same) more = ap (λ (i : ℕ). tree.nodes (first + i)) same ∙ none (tree.nodes (first + j)) parts_of.0
 
 pub leaf_ready : (tree : t.Tree) (n : ℕ) → t.ready tree n ≡ true → IsLeaf tree n
 leaf_ready tree n ready = by (t.kind tree n) refl

@@ -20,6 +20,7 @@ use Rattle.fk_meaning.specs.Request.{request, with_answer}
 use Rattle.fk_meaning.specs.Group.{has_room}
 use Rattle.fk_meaning.specs.Round.{Step, Runner, Acting, Round, Phase, Passes, Breaks, taking, done, answered, do_request, request_phase, after_phase, all_requests, do_local, local_phase, begin, begin_all, asking, joint_due, joint_at, same_joint, body_of, all_do, joins, fits_kind, fits, all_fit}
 use Rattle.fk_replay_rounds.specs.Fits.{one_joins, all_join, all_have, joins_below, fits_kind_below, fits_below, all_fit_below}
+use Rattle.fk_replay_rounds.specs.Joint.{TakenJointsStay, WholeRoundsFit}
 
 pub local_alone : (operation : Operation) → class_of operation ≡ Local → joint_of operation ≡ Alone
 local_alone o.Begin e = absurd (let bad : Tree ≡ Local = e in cc)
@@ -54,13 +55,13 @@ module _ {W : Type 0} (next : W → Option (Step W)) (set : Setting) where
   asking_joints (c ∷ round) (r ∷ rs) zero = joint_local (begin next set c r)
   asking_joints (c ∷ round) (r ∷ rs) (suc h) = asking_joints round rs h
 
-pub request_joints : {W : Type 0} (number : ℕ) (actings : List (Acting W)) (s : Store) (h : ℕ) → joint_at (all_requests number actings s).acting h ≡ joint_at actings h
-request_joints number [] s h = refl
-request_joints {W} number (a ∷ actings) s h = by_due a.due refl
+request_joint : {W : Type 0} (number : ℕ) (a : Acting W) (actings : List (Acting W)) (s : Store) (h : ℕ) → ((s' : Store) (k : ℕ) → joint_at (all_requests (suc number) actings s').acting k ≡ joint_at actings k)
+    → joint_at (all_requests number (a ∷ actings) s).acting h ≡ joint_at (a ∷ actings) h
+request_joint {W} number a actings s h more = by_due a.due refl
   where
     passes : (s' : Store) (a' : Acting W) → joint_due a'.due ≡ joint_due a.due → (h : ℕ) → joint_at (after_phase number s a actings (all_requests (suc number) actings) (Passes s' a')).acting h ≡ joint_at (a ∷ actings) h
     passes s' a' e zero = e
-    passes s' a' e (suc k) = request_joints (suc number) actings s' k
+    passes s' a' e (suc k) = more s' k
 
     by_answer : (step : Step W) (answer : Answer) → class_of step.operation ≡ Request → a.due ≡ Some step
         → joint_at (after_phase number s a actings (all_requests (suc number) actings) (answered step a.runner.has answer)).acting h ≡ joint_at (a ∷ actings) h
@@ -79,6 +80,10 @@ request_joints {W} number (a ∷ actings) s h = by_due a.due refl
     by_due : (due : Option (Step W)) → a.due ≡ due → joint_at (after_phase number s a actings (all_requests (suc number) actings) (request_phase s a a.due)).acting h ≡ joint_at (a ∷ actings) h
     by_due None e = ap (λ d. joint_at (after_phase number s a actings (all_requests (suc number) actings) (request_phase s a d)).acting h) e ∙ passes s a refl h
     by_due (Some step) e = ap (λ d. joint_at (after_phase number s a actings (all_requests (suc number) actings) (request_phase s a d)).acting h) e ∙ by_class step (class_of step.operation) refl e
+
+pub request_joints : {W : Type 0} (number : ℕ) (actings : List (Acting W)) (s : Store) (h : ℕ) → joint_at (all_requests number actings s).acting h ≡ joint_at actings h
+request_joints number [] s h = refl
+request_joints number (a ∷ actings) s h = request_joint number a actings s h (λ s' k. request_joints (suc number) actings s' k)
 
 -- ---- if nobody is above the last one
 
@@ -137,3 +142,33 @@ module _ (round : Round) (last : ℕ) (joint : ℕ → Joint) (tree : t.Tree) (f
   fit_whole first (suc c ∷ counts) =
       ap (λ (b : Bool). b && all_fit_below round last joint tree (suc first) counts) (kind_whole first (tree.places first) (t.kind tree (tree.places first)))
       ∙ ap (λ (b : Bool). fits_kind round joint tree first (tree.places first) (t.kind tree (tree.places first)) && b) (fit_whole (suc first) counts)
+
+-- ---- who isn't in a round
+
+pub absent_asking : {W : Type 0} (next : W → Option (Step W)) (set : Setting) (round : Round) (rs : List (Runner W)) (h : ℕ) (r : Runner W) → length round ≡ length rs → slice_get rs h ≡ Some r → slice_index round h ≡ 0
+    → slice_get (asking next set round rs) h ≡ Some (taking r None)
+absent_asking next set [] [] h r many is none = absurd (let bad : None ≡ Some r = is in cc)
+absent_asking next set [] (q ∷ rs) h r many is none = absurd (let z : ⊥ = omega arith in z)
+absent_asking next set (c ∷ round) [] h r many is none = absurd (let z : ⊥ = omega arith in z)
+absent_asking next set (zero ∷ round) (q ∷ rs) zero r many is none = let same : q ≡ r = cc in ap (λ x. Some (taking x None)) same
+absent_asking next set (suc c ∷ round) (q ∷ rs) zero r many is none = absurd (let z : ⊥ = omega arith in z)
+absent_asking next set (c ∷ round) (q ∷ rs) (suc h) r many is none = absent_asking next set round rs h r (omega arith) is none
+
+pub absent_requests : {W : Type 0} (number : ℕ) (actings : List (Acting W)) (s : Store) (h : ℕ) (a : Acting W) → slice_get actings h ≡ Some a → a.due ≡ None
+    → slice_get (all_requests number actings s).acting h ≡ Some a
+absent_requests number [] s h a is free = absurd (let bad : None ≡ Some a = is in cc)
+absent_requests {W} number (b ∷ actings) s zero a is free =
+    let same : b ≡ a = cc in
+    let due : b.due ≡ None = ap (λ (x : Acting W). x.due) same ∙ free in
+    ap (λ d. slice_get (after_phase number s b actings (all_requests (suc number) actings) (request_phase s b d)).acting 0) due ∙ ap Some same
+absent_requests {W} number (b ∷ actings) s (suc h) a is free = by_phase (request_phase s b b.due) (λ s'. absent_requests (suc number) actings s' h a is free)
+  where
+    by_phase : (phase : Phase W) → ((s' : Store) → slice_get (all_requests (suc number) actings s').acting h ≡ Some a) → slice_get (after_phase number s b actings (all_requests (suc number) actings) phase).acting (suc h) ≡ Some a
+    by_phase (Passes s' a') more = more s'
+    by_phase (Breaks site) more = is
+
+pub taken_stay : (W : Type 0) → TakenJointsStay W
+taken_stay W next set round s h = request_joints 0 (asking next set round s.runners) s.store h ∙ asking_joints next set round s.runners h
+
+pub whole_fit : WholeRoundsFit
+whole_fit round last joint tree few = fit_whole round last joint tree few 0 round

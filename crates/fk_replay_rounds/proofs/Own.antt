@@ -148,7 +148,7 @@ module _ {W : Type 0} (next : W → Option (Step W)) (set : Setting) where
   each_from n (q ∷ rs) own (suc k) r is = subst (λ (m : ℕ). IsOwn m r.has) (let e : suc n + k ≡ n + suc k = omega arith in e) (each_from (suc n) rs own.1 k r is)
 
   all_of : (rs : List (Runner W)) → OwnFrom 0 rs → AreOwn rs
-  all_of rs own = record { each = λ h r is. each_from 0 rs own h r is }
+  all_of rs own = record { each = λ h r is. subst (λ (k : ℕ). IsOwn k r.has) (let e : 0 + h ≡ h = omega arith in e) (each_from 0 rs own h r is) }
 
   own_asking : (n : ℕ) (round : Round) (rs : List (Runner W)) → OwnFrom n rs → OwnFrom n (map runner_of (asking next set round rs))
   own_asking n [] rs own = tt
@@ -158,12 +158,12 @@ module _ {W : Type 0} (next : W → Option (Step W)) (set : Setting) where
     own_asking (suc n) round rs own.1,
   )
 
-  own_requests : (number n : ℕ) (actings : List (Acting W)) (s : Store) → OwnFrom n (map runner_of actings) → OwnFrom n (map runner_of (all_requests number actings s).acting)
-  own_requests number n [] s own = tt
-  own_requests number n (a ∷ actings) s own = by_due a.due refl
+  own_phase : (number n : ℕ) (a : Acting W) (actings : List (Acting W)) (s : Store) → OwnFrom n (map runner_of (a ∷ actings))
+      → ((s' : Store) → OwnFrom (suc n) (map runner_of (all_requests (suc number) actings s').acting)) → OwnFrom n (map runner_of (all_requests number (a ∷ actings) s).acting)
+  own_phase number n a actings s own more = by_due a.due refl
     where
       passes : (s' : Store) (a' : Acting W) → IsOwn n a'.runner.has → OwnFrom n (map runner_of (after_phase number s a actings (all_requests (suc number) actings) (Passes s' a')).acting)
-      passes s' a' is = (is, own_requests (suc number) (suc n) actings s' own.1)
+      passes s' a' is = (is, more s')
 
       breaks : (site : ℕ) → OwnFrom n (map runner_of (after_phase number s a actings (all_requests (suc number) actings) (Breaks site)).acting)
       breaks site = own
@@ -186,6 +186,10 @@ module _ {W : Type 0} (next : W → Option (Step W)) (set : Setting) where
       by_due None e = subst (λ o. OwnFrom n (map runner_of (after_phase number s a actings (all_requests (suc number) actings) (request_phase s a o)).acting)) (sym e) (passes s a own.0)
       by_due (Some step) e = subst (λ o. OwnFrom n (map runner_of (after_phase number s a actings (all_requests (suc number) actings) (request_phase s a o)).acting)) (sym e) (by_class step (class_of step.operation))
 
+  own_requests : (number n : ℕ) (actings : List (Acting W)) (s : Store) → OwnFrom n (map runner_of actings) → OwnFrom n (map runner_of (all_requests number actings s).acting)
+  own_requests number n [] s own = tt
+  own_requests number n (a ∷ actings) s own = own_phase number n a actings s own (λ s'. own_requests (suc number) (suc n) actings s' own.1)
+
   own_settled : (n : ℕ) (actings others : List (Acting W)) (old new : t.Tree) → OwnFrom n (map runner_of others) → OwnFrom n (settled actings old new others)
   own_settled n actings [] old new own = tt
   own_settled n actings (a ∷ others) old new own = (by a.due, own_settled (suc n) actings others old new own.1)
@@ -205,7 +209,7 @@ module _ {W : Type 0} (next : W → Option (Step W)) (set : Setting) where
       let step = own_requests 0 0 (asking next set round s.runners) s.store ask in
       let r = all_requests 0 (asking next set round s.runners) s.store in
       record {
-        asking = all_of _ ask;
-        stepping = all_of _ step;
+        before_requests = all_of _ ask;
+        before_steps = all_of _ step;
         after = all_of _ (own_tree s.tree r.store r.acting r.fault step);
       }

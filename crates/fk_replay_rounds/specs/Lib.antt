@@ -2,3 +2,4 @@ pub mod Own
 pub mod Modes
 pub mod Fits
 pub mod Stops
+pub mod Joint

@@ -15,8 +15,8 @@ pub record AreOwn {W : Type 0} (runners : List (Runner W)) : Type 0 where
 -- all of this is kept before the requests of a round, before the steps of the tree, and after them
 pub record KeepOwn {W : Type 0} (next : W → Option (Step W)) (set : Setting) (round : Round)
     (s : State W) : Type 0 where
-  pub asking : AreOwn (map runner_of (asking next set round s.runners))
-  pub stepping :
+  pub before_requests : AreOwn (map runner_of (asking next set round s.runners))
+  pub before_steps :
       AreOwn (map runner_of (all_requests 0 (asking next set round s.runners) s.store).acting)
   pub after : AreOwn (result next set round s).runners
 

@@ -122,28 +122,20 @@ pub record IsAsBefore (old now : Tree) (g : ℕ) : Type 0 where
   pub node : now.nodes g ≡ old.nodes g
   pub ended : (m : ℕ) → m < old.given → old.nodes m ≡ None → now.nodes m ≡ None
 
+and_true : (a b : Bool) → a && b ≡ true → (a ≡ true) × (b ≡ true)
+and_true true b f = (refl, f)
+and_true false b f = absurd (let bad : false ≡ true = f in cc)
+
+none_of : (node : Option Node) → is_none node ≡ true → node ≡ None
+none_of None e = refl
+none_of (Some node) e = absurd (let bad : false ≡ true = e in cc)
+
 have_ended_still : (old now : Tree) (first k : ℕ) → ((i : ℕ) → i < k → old.nodes (first + i) ≡ None → now.nodes (first + i) ≡ None) → have_ended old first k ≡ true → have_ended now first k ≡ true
 have_ended_still old now first zero still e = refl
-have_ended_still old now first (suc k) still e = by (old.nodes (first + k)) (now.nodes (first + k)) refl refl
-  where
-    Both : Type 0
-    Both = (is_none (old.nodes (first + k)) ≡ true) × (have_ended old first k ≡ true)
-
-    and_true : (a b : Bool) → a && b ≡ true → (a ≡ true) × (b ≡ true)
-    and_true true b f = (refl, f)
-    and_true false b f = absurd (let bad : false ≡ true = f in cc)
-
-    both : (is_none (old.nodes (first + k)) ≡ true) × (have_ended old first k ≡ true)
-    both = and_true (is_none (old.nodes (first + k))) (have_ended old first k) e
-
-    others : have_ended now first k ≡ true
-    others = have_ended_still old now first k (λ i lt. still i (omega arith)) both.1
-
-    by : (a b : Option Node) → old.nodes (first + k) ≡ a → now.nodes (first + k) ≡ b → have_ended now first (suc k) ≡ true
-    by None b ea eb =
-        let none : now.nodes (first + k) ≡ None = still k (omega arith) ea in
-        ap (λ node. is_none node && have_ended now first k) none ∙ others
-    by (Some node) b ea eb = absurd (let bad : false ≡ true = sym (ap is_none ea) ∙ both.0 in cc)
+have_ended_still old now first (suc k) still e =
+    let both = and_true (is_none (old.nodes (first + k))) (have_ended old first k) e in
+    ap (λ node. is_none node && have_ended now first k) (still k (omega arith) (none_of (old.nodes (first + k)) both.0))
+    ∙ have_ended_still old now first k (λ i lt. still i (omega arith)) both.1
 
 ready_still : (p : ℕ) (old now : Tree) (g : ℕ) → IsSound p old → IsAsBefore old now g → t.ready old g ≡ true → t.ready now g ≡ true
 ready_still p old now g sound as_before ready = by (t.kind old g) refl

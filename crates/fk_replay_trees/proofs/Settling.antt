@@ -82,7 +82,7 @@ module _ (p : ℕ) (core : List CoreOp) (old new : Tree) (acting : List acts.Act
       where
         single : (m h : ℕ) → is_member h (m ∷ []) ≡ true → h ≤ m
         single m h e = grind arith
-    highest_above (m ∷ k ∷ ms) h up is = by (h == m) refl
+    highest_above (m ∷ k ∷ ms) h up is = by (h == m) refl (λ g later up'. highest_above (k ∷ ms) g up' later)
       where
         and_of : (a b : Bool) → a && b ≡ true → (a ≡ true) × (b ≡ true)
         and_of true b f = (refl, f)
@@ -100,12 +100,13 @@ module _ (p : ℕ) (core : List CoreOp) (old new : Tree) (acting : List acts.Act
         self : (a : ℕ) (as' : List ℕ) → is_member a (a ∷ as') ≡ true
         self a as' = grind arith
 
-        by : (b : Bool) → (h == m) ≡ b → h ≤ highest (k ∷ ms)
-        by true e =
+        by : (b : Bool) → (h == m) ≡ b → ((g : ℕ) → is_member g (k ∷ ms) ≡ true → is_ascending (k ∷ ms) ≡ true → g ≤ highest (k ∷ ms)) → h ≤ highest (k ∷ ms)
+        by true e more =
             let same : h ≡ m = grind arith in
-            let above : k ≤ highest (k ∷ ms) = highest_above (k ∷ ms) k parts.1 (self k ms) in
+            let above : k ≤ highest (k ∷ ms) = more k (self k ms) parts.1 in
+            let lt = less in
             omega arith
-        by false e = highest_above (k ∷ ms) h parts.1 (sym (ap (λ (b : Bool). b || is_member h (k ∷ ms)) e) ∙ is)
+        by false e more = more h (sym (ap (λ (b : Bool). b || is_member h (k ∷ ms)) e) ∙ is) parts.1
 
     pub settles_more : (i : ℕ) (now : List Actor) (x : acts.Acting) (a to : Actor) (high size : ℕ) → SettlesAt i now → i < length acting → x ≡ get_or acting i x → slice_get now x.number ≡ Some a
         → high ≡ last (values (has_of now x.highest)) → size ≡ length (t.members new (new.places x.number)) → HasSettled core high x.lowest size (x.node == 0) a to
