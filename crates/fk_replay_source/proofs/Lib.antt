@@ -1,0 +1,4 @@
+pub mod Forms
+pub mod Carried
+pub mod Replayed
+pub mod Accepted
