@@ -1,5 +1,6 @@
 pub mod Answers
 pub mod Laws
-pub mod Steps
-pub mod Served
+pub mod Ranges
+pub mod Steady
+pub mod Taken
 pub mod Replay

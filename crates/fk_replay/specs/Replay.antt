@@ -1,8 +1,8 @@
 -- What the replay of a list under a trace answers.
-use Rattle.std.specs.Prelude.{◌≡◌, ℕ, List, [], map, slice_get, true, Some, None, Result}
+use Rattle.std.specs.Prelude.{◌≡◌, ℕ, List, [], map, None, Result}
 use Rattle.std.specs.Prelude.{Ok, Err}
 use Rattle.fk_meaning.specs.Processor.{Setting, setting_of}
-use Rattle.fk_meaning.specs.Round.{Runner, State, Step, are_local, after_locals}
+use Rattle.fk_meaning.specs.Round.{State}
 use Rattle.fk_meaning.specs.Schedule.{Schedule, SourceStand, IsLawful, ArePossible, run, stand_of}
 use Rattle.fk_meaning.specs.Schedule.{SourceRunning, SourceFinished, SourceFaulted}
 use Rattle.fk_core.specs.declared.op.CoreOp.{CoreOp}
@@ -18,8 +18,7 @@ use Rattle.fk_replay.specs.declared.end.End.{End}
 use Rattle.fk_replay.specs.declared.end.End.TheVariants.{Running, Finished, Faulted}
 use Rattle.fk_replay.specs.declared.end.Replayed.{Replayed}
 use Rattle.fk_replay.specs.Answers.{IsNotPossible, IsPassedOver}
-use Rattle.fk_replay.specs.Served.{CanAsk}
-use Rattle.fk_replay.specs.Steps.{GivesBack}
+use Rattle.fk_replay_phases.specs.Safe.{AreSafe}
 
 abbrev pub stand_in : End → SourceStand
 stand_in Running = SourceRunning
@@ -52,22 +51,12 @@ module _ (core : List CoreOp) (main : ℕ) (words firsts input : List ℕ) (p : 
   abbrev pub after_in : Schedule → State Position
   after_in schedule = run (next core) setting_in schedule first_in
 
-  -- a processor that, after some of its local operations, is about to do a step
-  pub record IsAbout (before : Runner Position) (step : Step Position) : Type 0 where
-    pub count : ℕ
-    pub local : are_local (next core) setting_in count before ≡ true
-    pub due : next core (after_locals (next core) setting_in count before).left ≡ Some step
-
   -- after every schedule of possible rounds, whichever of its local operations a processor has
   -- done: an address that a request uses may be used, and a call that ends can give back its frames
   abbrev pub IsSafe : Type 0
   IsSafe =
       (schedule : Schedule) → ArePossible (next core) setting_in schedule first_in
-      → (after_in schedule).fault ≡ None
-      → (h : ℕ) (r : Runner Position) → slice_get (after_in schedule).runners h ≡ Some r
-      → (step : Step Position) (about : IsAbout r step)
-      → let q = after_locals (next core) setting_in about.count r in
-      CanAsk step.operation q.has × GivesBack step.operation q.has
+      → (after_in schedule).fault ≡ None → AreSafe core setting_in (after_in schedule).runners
 
   -- the output and the status are those of the run under a lawful schedule
   pub record IsReplay (schedule : Schedule) (replayed : Replayed) : Type 0 where

@@ -4,20 +4,15 @@
 //! and how the run ends.
 #![tactic(auto)]
 
+mod able;
 mod end;
-mod group;
+mod enlist;
 pub mod laws;
-mod list;
-mod local;
-mod pace;
 mod replay;
-mod request;
-mod round;
+mod rounds;
 mod run;
-mod runner;
 #[cfg(test)]
 mod tests;
-mod values;
 
 pub use end::{End, Replayed};
 pub use fk_replay_text::{Acts, Moment, ReplayFault, Trace, read_trace};

@@ -4,7 +4,7 @@ ghost use Rattle.std.specs.Prelude.{◌+◌, ◌^◌, ◌<◌, ◌≤◌, length
 ghost use Rattle.fk_replay.specs.Replay.{IsOfText, IsOrderly, IsSafe, IsAnswer, schedule_in};
 
 use crate::end::{End, Replayed};
-use crate::round::Outcome;
+use crate::rounds::Outcome;
 use crate::run::Run;
 use fk_core::CoreOp;
 use fk_replay_text::{Acts, ReplayFault, Trace};
@@ -41,17 +41,14 @@ fn pass_round(
     is_last: bool,
 ) -> Result<Option<End>, ReplayFault> {
     let outcome = run.take_round(ops, acts)?;
-    run.clear_counts(acts);
     let end = match outcome {
         Outcome::NotPossible => return Err(ReplayFault::NotPossible(round)),
-        Outcome::Stopped(_, _) if !is_last => return Err(ReplayFault::NotPossible(round)),
-        Outcome::Stopped(site, processor) => Some(End::Faulted(site, processor)),
+        Outcome::Stopped(_) if !is_last => return Err(ReplayFault::NotPossible(round)),
+        Outcome::Stopped(fault) => Some(End::Faulted(fault.site, fault.processor)),
         Outcome::Possible => None,
     };
-    for acts in acts {
-        for number in acts.first..=acts.last {
-            run.pace.end(number);
-        }
+    for acting in &run.acting {
+        run.pace.end(acting.number);
     }
     on_time(run, round)?;
     run.tell(ops, round.wrapping_add(1));

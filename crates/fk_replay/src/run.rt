@@ -1,25 +1,13 @@
 //! The state of a run.
 
-use crate::list::Due;
-use crate::pace::Pace;
-use crate::runner::{Mode, Runner};
 use fk_core::CoreOp;
-use fk_meaning_operation::{Joint, Operation};
 use fk_meaning_state::{Processor, Setting};
 use fk_meaning_store::Store32;
+use fk_replay_phases::{Acting, Actor};
+use fk_replay_rounds::Mode;
+use fk_replay_steps::{Due, Pace, Runner};
 use fk_tree::Tree;
 use std::alloc::{AllocError, Global};
-
-/// A processor in a round: the operation that it takes, its node before the round, and the lowest
-/// and the highest member there.
-#[derive(Clone, Copy)]
-pub(crate) struct Acting {
-    pub(crate) number: u32,
-    pub(crate) due: Due,
-    pub(crate) node: u64,
-    pub(crate) lowest: u32,
-    pub(crate) highest: u32,
-}
 
 /// How many members of a node stand at a joint operation.
 #[derive(Clone, Copy)]
@@ -36,42 +24,60 @@ pub(crate) struct Run {
     pub(crate) setting: Setting,
     pub(crate) store: Store32,
     pub(crate) tree: Tree,
-    pub(crate) runners: Vec<Runner>,
+    pub(crate) actors: Vec<Actor>,
     pub(crate) pace: Pace,
     /// The count of each processor in the current round.
     pub(crate) counts: Vec<u32>,
-    /// The operation that each processor takes in the current round.
-    pub(crate) joints: Vec<Joint>,
+    /// Those who are in the current round.
     pub(crate) acting: Vec<Acting>,
     /// By the lowest member of each node.
     pub(crate) arrived: Vec<Arrived>,
 }
 
-/// What those who do an operation do together.
-pub(crate) fn joint_of(operation: Operation) -> Joint {
-    match operation {
-        Operation::Begin => Joint::Starting,
-        Operation::Meet(false) => Joint::AtBarrier,
-        Operation::Meet(true) => Joint::Closing,
-        Operation::Resume => Joint::Resuming,
-        _ => Joint::Alone,
-    }
-}
-
 /// A processor at the beginning of `main`.
-fn first_runner(
+fn first_actor(
     alloc: Global,
     setting: Setting,
     firsts: &[u32],
     main: u32,
     number: u32,
-) -> Result<Runner, AllocError> {
-    Ok(Runner {
-        at: main,
-        returns: Vec::new(alloc),
+) -> Result<Actor, AllocError> {
+    Ok(Actor {
+        runner: Runner {
+            at: main,
+            returns: Vec::new(alloc),
+            processor: Processor::first(alloc, setting, firsts, number)?,
+        },
         mode: Mode::Apart,
-        processor: Processor::first(alloc, setting, firsts, number)?,
+        taken: None,
     })
+}
+
+fn first_actors(
+    alloc: Global,
+    setting: Setting,
+    firsts: &[u32],
+    main: u32,
+) -> Result<Vec<Actor>, AllocError> {
+    let mut actors = Vec::new(alloc);
+    for number in 0..setting.processors {
+        let actor = first_actor(alloc, setting, firsts, main, number)?;
+        actors.push(actor)?;
+    }
+    Ok(actors)
+}
+
+/// Nobody stands at a joint operation.
+fn none_arrived(alloc: Global, processors: u32) -> Result<Vec<Arrived>, AllocError> {
+    let mut arrived = Vec::new(alloc);
+    for _ in 0..processors {
+        arrived.push(Arrived {
+            starting: 0,
+            at_barrier: 0,
+            closing: 0,
+        })?;
+    }
+    Ok(arrived)
 }
 
 impl Run {
@@ -85,50 +91,32 @@ impl Run {
         processors: u32,
     ) -> Result<Run, AllocError> {
         let setting = Setting::of(processors, words.len() as u32, input.len() as u32);
-        let mut runners = Vec::new(alloc);
-        let mut joints = Vec::new(alloc);
-        let mut arrived = Vec::new(alloc);
-        for number in 0..processors {
-            runners.push(first_runner(alloc, setting, firsts, main, number)?)?;
-            joints.push(Joint::Alone)?;
-            arrived.push(Arrived {
-                starting: 0,
-                at_barrier: 0,
-                closing: 0,
-            })?;
-        }
         Ok(Run {
             alloc,
             setting,
             store: Store32::new(alloc, words, input, processors)?,
             tree: Tree::root(alloc, processors)?,
-            runners,
+            actors: first_actors(alloc, setting, firsts, main)?,
             pace: Pace::new(alloc, processors)?,
             counts: vec![in alloc; 0; processors as usize]?,
-            joints,
             acting: Vec::new(alloc),
-            arrived,
+            arrived: none_arrived(alloc, processors)?,
         })
     }
 
     /// The operation that is due for a processor.
     pub(crate) fn due(&self, ops: &[CoreOp], processor: u32) -> Option<Due> {
-        self.runners.get(processor as usize)?.due(ops)
+        self.actors[processor as usize].runner.due(ops)
     }
 
     pub(crate) fn mode(&self, processor: u32) -> Mode {
-        match self.runners.get(processor as usize) {
-            Some(runner) => runner.mode,
-            None => Mode::Apart,
-        }
-    }
-
-    pub(crate) fn count(&self, processor: u32) -> u32 {
-        self.counts.get(processor as usize).copied().unwrap_or(0)
+        self.actors[processor as usize].mode
     }
 
     /// Whether no processor has anything left to do.
     pub(crate) fn is_done(&self, ops: &[CoreOp]) -> bool {
-        self.runners.iter().all(|runner| runner.due(ops).is_none())
+        self.actors
+            .iter()
+            .all(|actor| actor.runner.due(ops).is_none())
     }
 }

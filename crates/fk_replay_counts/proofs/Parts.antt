@@ -65,7 +65,7 @@ module _ {W : Type 0} (next : W → Option (Step W)) (set : Setting) where
       and_from (nat_lt c 255 && are_local next set c r) (is_some (next (after_locals next set c r).left))
       (and_from (nat_lt c 255) (are_local next set c r) m.few m.locals) m.due
 
-  pub local_is_due : (due : Option (Step W)) → is_local_next due ≡ true → is_some due ≡ true
+  pub local_is_due : (due : Option (Step W)) → is_local_next next set due ≡ true → is_some due ≡ true
   local_is_due None e = absurd (true≢false (sym e))
   local_is_due (Some step) e = refl
 
@@ -75,7 +75,7 @@ module _ {W : Type 0} (next : W → Option (Step W)) (set : Setting) where
   first_is_local (suc zero) r e = refl
   first_is_local (suc (suc c)) r e =
       let m = may_parts (suc c) r e in
-      and_from (is_local_next (next r.left)) true (and_parts (is_local_next (next r.left)) (are_local next set c (after_one next set r)) m.locals).0 refl
+      and_from (is_local_next next set (next r.left)) true (and_parts (is_local_next next set (next r.left)) (are_local next set c (after_one next set r)) m.locals).0 refl
 
   first_may : (c : ℕ) (r : Runner W) → may_act next set c r ≡ true → may_act next set (first_of c) r ≡ true
   first_may zero r e = refl
@@ -85,7 +85,7 @@ module _ {W : Type 0} (next : W → Option (Step W)) (set : Setting) where
       may_from 0 r (record {
         few = refl;
         locals = refl;
-        due = local_is_due (next r.left) (and_parts (is_local_next (next r.left)) (are_local next set c (after_one next set r)) m.locals).0;
+        due = local_is_due (next r.left) (and_parts (is_local_next next set (next r.left)) (are_local next set c (after_one next set r)) m.locals).0;
       })
 
   fewer : (c : ℕ) → nat_lt (suc c) 255 ≡ true → nat_lt c 255 ≡ true
@@ -98,7 +98,7 @@ module _ {W : Type 0} (next : W → Option (Step W)) (set : Setting) where
       let m = may_parts (suc c) r e in
       may_from c (after_one next set r) (record {
         few = fewer c m.few;
-        locals = (and_parts (is_local_next (next r.left)) (are_local next set c (after_one next set r)) m.locals).1;
+        locals = (and_parts (is_local_next next set (next r.left)) (are_local next set c (after_one next set r)) m.locals).1;
         due = m.due;
       })
 
@@ -107,7 +107,7 @@ module _ {W : Type 0} (next : W → Option (Step W)) (set : Setting) where
   same_begin (suc zero) r = refl
   same_begin (suc (suc c)) r = refl
 
-  first_joint : (due : Option (Step W)) → is_local_next due ≡ true → joint_due due ≡ Alone
+  first_joint : (due : Option (Step W)) → is_local_next next set due ≡ true → joint_due due ≡ Alone
   first_joint None e = refl
   first_joint (Some step) e = local_is_alone step.operation e
 
@@ -116,7 +116,7 @@ module _ {W : Type 0} (next : W → Option (Step W)) (set : Setting) where
   first_alone (suc zero) r e = refl
   first_alone (suc (suc c)) r e =
       let m = may_parts (suc c) r e in
-      first_joint (next r.left) (and_parts (is_local_next (next r.left)) (are_local next set c (after_one next set r)) m.locals).0
+      first_joint (next r.left) (and_parts (is_local_next next set (next r.left)) (are_local next set c (after_one next set r)) m.locals).0
 
   -- all of them
   abbrev AllMay : Round → List (Runner W) → Type 0

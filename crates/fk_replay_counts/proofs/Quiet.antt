@@ -28,9 +28,9 @@ module _ {W : Type 0} (next : W → Option (Step W)) (set : Setting) where
   abbrev all_idle : List (Runner W) → List (Acting W)
   all_idle rs = map idle rs
 
-  last_is_local : (c : ℕ) (r : Runner W) → are_local next set (suc c) r ≡ true → is_local_next (next (after_locals next set c r).left) ≡ true
-  last_is_local zero r e = (and_parts (is_local_next (next r.left)) true e).0
-  last_is_local (suc c) r e = last_is_local c (after_one next set r) (and_parts (is_local_next (next r.left)) (are_local next set (suc c) (after_one next set r)) e).1
+  last_is_local : (c : ℕ) (r : Runner W) → are_local next set (suc c) r ≡ true → is_local_next next set (next (after_locals next set c r).left) ≡ true
+  last_is_local zero r e = (and_parts (is_local_next next set (next r.left)) true e).0
+  last_is_local (suc c) r e = last_is_local c (after_one next set r) (and_parts (is_local_next next set (next r.left)) (are_local next set (suc c) (after_one next set r)) e).1
 
   pub last_one : (c : ℕ) (r : Runner W) → after_locals next set (suc c) r ≡ after_one next set (after_locals next set c r)
   last_one zero r = refl
@@ -42,7 +42,7 @@ module _ {W : Type 0} (next : W → Option (Step W)) (set : Setting) where
   does_it q step Request e = absurd (true≢false (sym e))
   does_it q step Tree e = absurd (true≢false (sym e))
 
-  done_is_idle : (q : Runner W) (due : Option (Step W)) → is_local_next due ≡ true
+  done_is_idle : (q : Runner W) (due : Option (Step W)) → is_local_next next set due ≡ true
       → local_phase next set (taking q due) due ≡ idle (local_phase next set (taking q due) due).runner
   done_is_idle q None e = absurd (true≢false (sym e))
   done_is_idle q (Some step) e = does_it q step (class_of step.operation) e

@@ -104,7 +104,7 @@ module _ {W : Type 0} (next : W → Option (Step W)) (set : Setting) where
         same = ap (result next set (last_in round)) x.after ∙ same_result round (last_in round) s x.runners x.begins;
       }
 
-  allowed_of : (round : Round) (s : State W) → is_possible next set round s ≡ true → is_allowed next set round s ≡ true
+  pub allowed_of : (round : Round) (s : State W) → is_possible next set round s ≡ true → is_allowed next set round s ≡ true
   allowed_of round s e =
       (and_parts (is_none s.fault) (is_allowed next set round s)
       (and_parts (is_none s.fault && is_allowed next set round s) (is_none (result next set round s).fault) e).0).1

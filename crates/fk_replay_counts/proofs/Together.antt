@@ -1,5 +1,5 @@
 -- A group in lockstep does a local operation: all its members do, and they stay together.
-use Rattle.std.proofs.Common.{◌≡◌, ◌≢◌, ℕ, zero, suc, ◌+◌, ◌<◌, ◌==◌, ◌&&◌, Bool, true, false, true≢false, List, [], ◌∷◌, length, slice_get, Option, Some, None, is_some, is_none, refl, sym, ap, ap₂, ◌∙◌, subst, subst₂, arith, if◌then◌else◌}
+use Rattle.std.proofs.Common.{◌≡◌, ◌≢◌, ℕ, zero, suc, ◌+◌, ◌<◌, ◌==◌, ◌&&◌, ◌||◌, Bool, true, false, true≢false, List, [], ◌∷◌, length, slice_get, Option, Some, None, is_some, is_none, refl, sym, ap, ap₂, ◌∙◌, subst, subst₂, arith, if◌then◌else◌}
 use Rattle.std.specs.Prelude.{slice_index}
 use Rattle.std.specs.List.{list_all}
 use Rattle.std.proofs.lemmas.Bool.{and_parts, and_from, eqb-true, eq-eqb}
@@ -40,6 +40,13 @@ turn_at ms h zero (r ∷ rs) lt = let same : h ≡ h + 0 = omega arith in ap (λ
 turn_at ms h (suc i) (r ∷ rs) lt =
     let same : suc h + i ≡ h + suc i = omega arith in turn_at ms (suc h) i rs (omega arith) ∙ ap (λ (j : ℕ). turn_of (is_member j ms)) same
 
+-- the first number is 0
+from_zero : (ms : List ℕ) (h : ℕ) → is_member h ms ≡ true → is_member (0 + h) ms ≡ true
+from_zero ms h is = let same : h ≡ 0 + h = omega arith in subst (λ (j : ℕ). is_member j ms ≡ true) same is
+
+to_zero : (ms : List ℕ) (h : ℕ) → is_member (0 + h) ms ≡ true → is_member h ms ≡ true
+to_zero ms h is = let same : 0 + h ≡ h = omega arith in subst (λ (j : ℕ). is_member j ms ≡ true) same is
+
 -- the members' own test, member by member
 all_members : (f : ℕ → Bool) (ms : List ℕ) → ((m : ℕ) → is_member m ms ≡ true → f m ≡ true) → list_all f ms ≡ true
 all_members f [] each = refl
@@ -54,19 +61,19 @@ all_members f (m ∷ ms) each =
 module _ {W : Type 0} (next : W → Option (Step W)) (set : Setting) where
   -- which processors are to do a local operation
   abbrev AllLocal : (ms : List ℕ) (h : ℕ) → List (Runner W) → Type 0
-  AllLocal ms h rs = (i : ℕ) (r : Runner W) → slice_get rs i ≡ Some r → is_member (h + i) ms ≡ true → is_local_next (next r.left) ≡ true
+  AllLocal ms h rs = (i : ℕ) (r : Runner W) → slice_get rs i ≡ Some r → is_member (h + i) ms ≡ true → is_local_next next set (next r.left) ≡ true
 
-  local_here : (ms : List ℕ) (h : ℕ) (r : Runner W) (rs : List (Runner W)) → AllLocal ms h (r ∷ rs) → is_member h ms ≡ true → is_local_next (next r.left) ≡ true
+  local_here : (ms : List ℕ) (h : ℕ) (r : Runner W) (rs : List (Runner W)) → AllLocal ms h (r ∷ rs) → is_member h ms ≡ true → is_local_next next set (next r.left) ≡ true
   local_here ms h r rs all is = let same : h ≡ h + 0 = omega arith in all 0 r refl (subst (λ (j : ℕ). is_member j ms ≡ true) same is)
 
   local_later : (ms : List ℕ) (h : ℕ) (r : Runner W) (rs : List (Runner W)) → AllLocal ms h (r ∷ rs) → AllLocal ms (suc h) rs
   local_later ms h r rs all i q at is = let same : suc h + i ≡ h + suc i = omega arith in all (suc i) q at (subst (λ (j : ℕ). is_member j ms ≡ true) same is)
 
-  turn_local : (b : Bool) (r : Runner W) → (b ≡ true → is_local_next (next r.left) ≡ true) → are_local next set (turn_of b) r ≡ true
-  turn_local true r is = and_from (is_local_next (next r.left)) true (is refl) refl
+  turn_local : (b : Bool) (r : Runner W) → (b ≡ true → is_local_next next set (next r.left) ≡ true) → are_local next set (turn_of b) r ≡ true
+  turn_local true r is = and_from (is_local_next next set (next r.left)) true (is refl) refl
   turn_local false r is = refl
 
-  turn_may : (b : Bool) (r : Runner W) → (b ≡ true → is_local_next (next r.left) ≡ true) → may_act next set (turn_of b) r ≡ true
+  turn_may : (b : Bool) (r : Runner W) → (b ≡ true → is_local_next next set (next r.left) ≡ true) → may_act next set (turn_of b) r ≡ true
   turn_may true r is = may_from next set 0 r (record { few = refl; locals = refl; due = local_is_due next set (next r.left) (is refl) })
   turn_may false r is = refl
 
@@ -91,7 +98,7 @@ module _ {W : Type 0} (next : W → Option (Step W)) (set : Setting) where
     once : (h : ℕ) → Has tree n h → slice_index round h ≡ 1
     once h has =
         let lt = sound.within n h has in
-        turn_at ms 0 h all (omega (arith, lt, many)) ∙ ap turn_of has
+        turn_at ms 0 h all (omega (arith, lt, many)) ∙ ap turn_of (from_zero ms h has)
 
     fits_there : (does' : ℕ → Joint) (h : ℕ) → Has tree n h → fits_kind round does' tree h n (Some Lockstep) ≡ true
     fits_there does' h has =
@@ -130,30 +137,31 @@ module _ {W : Type 0} (next : W → Option (Step W)) (set : Setting) where
       advance_at ms (suc h) i rs r at (subst (λ (j : ℕ). is_member j ms ≡ true) same is)
 
   pub turn : (s : State W) (n : ℕ) → s.fault ≡ None → IsSound set.processors s.tree → length s.runners ≡ set.processors → kind s.tree n ≡ Some Lockstep
-      → ((h : ℕ) (r : Runner W) → slice_get s.runners h ≡ Some r → Has s.tree n h → is_local_next (next r.left) ≡ true) → Turn s n
+      → ((h : ℕ) (r : Runner W) → slice_get s.runners h ≡ Some r → Has s.tree n h → is_local_next next set (next r.left) ≡ true) → Turn s n
   turn s n none sound many is local =
       let p = set.processors in
       let ms = members s.tree n in
       let round = turns ms 0 s.runners in
       let joints = joint_at (begin_all next set round s.runners) in
-      let after = quiet_result next set round s (turns_quiet ms 0 s.runners local) in
+      let all : AllLocal ms 0 s.runners = λ i r at has. local i r at (to_zero ms i has) in
+      let after = quiet_result next set round s (turns_quiet ms 0 s.runners all) in
       record {
         round = round;
         possible = and_from (is_none s.fault && is_allowed next set round s) (is_none (result next set round s).fault)
         (and_from (is_none s.fault) (is_allowed next set round s) (ap is_none none)
-        (and_from (all_may_act next set round s.runners) (all_fit round joints s.tree 0 round) (turns_may ms 0 s.runners local)
+        (and_from (all_may_act next set round s.runners) (all_fit round joints s.tree 0 round) (turns_may ms 0 s.runners all)
         (fit_from p n s.tree sound is s.runners many joints 0 s.runners)))
         (ap (λ (x : State W). is_none x.fault) after);
         after = after;
-        at = λ h r has there. advance_at ms 0 h s.runners r there has;
+        at = λ h r has there. advance_at ms 0 h s.runners r there (from_zero ms h has);
       }
 
   -- one processor alone does local operations
-  lone_local : (rs : List (Runner W)) (h : ℕ) (r : Runner W) → slice_get rs h ≡ Some r → is_local_next (next r.left) ≡ true → AllLocal (h ∷ []) 0 rs
+  lone_local : (rs : List (Runner W)) (h : ℕ) (r : Runner W) → slice_get rs h ≡ Some r → is_local_next next set (next r.left) ≡ true → AllLocal (h ∷ []) 0 rs
   lone_local rs h r at local i q there is =
-      let same : i ≡ h = eqb-true i h (or_none (i == h) is) in
+      let same : i ≡ h = eqb-true i h (or_none (i == h) (to_zero (h ∷ []) i is)) in
       let q_is : q ≡ r = some_same q r (sym there ∙ ap (slice_get rs) same ∙ at) in
-      subst (λ (x : Runner W). is_local_next (next x.left) ≡ true) (sym q_is) local
+      subst (λ (x : Runner W). is_local_next next set (next x.left) ≡ true) (sym q_is) local
     where
       some_same : (x y : Runner W) → Some x ≡ Some y → x ≡ y
       some_same x y e = cc
@@ -169,10 +177,10 @@ module _ {W : Type 0} (next : W → Option (Step W)) (set : Setting) where
   pub lone : (count : ℕ) (s : State W) (h : ℕ) (r : Runner W) → slice_get s.runners h ≡ Some r → are_local next set count r ≡ true → LoneRun count s h r
   lone zero s h r at e = record { schedule = []; after = at }
   lone (suc c) s h r at e =
-      let parts = and_parts (is_local_next (next r.left)) (are_local next set c (after_one next set r)) e in
+      let parts = and_parts (is_local_next next set (next r.left)) (are_local next set c (after_one next set r)) e in
       let round = turns (h ∷ []) 0 s.runners in
       let goes_on = quiet_result next set round s (turns_quiet (h ∷ []) 0 s.runners (lone_local s.runners h r at parts.0)) in
-      let there = advance_at (h ∷ []) 0 h s.runners r at (ap (λ (b : Bool). b || false) (eq-eqb h h refl)) in
+      let there = advance_at (h ∷ []) 0 h s.runners r at (from_zero (h ∷ []) h (ap (λ (b : Bool). b || false) (eq-eqb h h refl))) in
       let more = lone c (result next set round s) h (after_one next set r)
       (ap (λ (u : State W). slice_get u.runners h) goes_on ∙ there) parts.1 in
       record { schedule = round ∷ more.schedule; after = more.after }
@@ -182,9 +190,9 @@ module _ {W : Type 0} (next : W → Option (Step W)) (set : Setting) where
       (goes : (round : Round) (s : State W) → Reached s → is_possible next set round s ≡ true → Reached (result next set round s))
       (calm : (s : State W) → Reached s → s.fault ≡ None) (sound : (s : State W) → Reached s → IsSound set.processors s.tree)
       (many : (s : State W) → Reached s → length s.runners ≡ set.processors) (one : (s : State W) → Reached s → HaveOneProgram next s) where
-    record InStep (count : ℕ) (r q : Runner W) : Type 0 where
-      local : are_local next set count q ≡ true
-      left : (after_locals next set count r).left ≡ (after_locals next set count q).left
+    pub record InStep (count : ℕ) (r q : Runner W) : Type 0 where
+      pub local : are_local next set count q ≡ true
+      pub left : (after_locals next set count r).left ≡ (after_locals next set count q).left
 
     abbrev IsGroup : State W → (n g : ℕ) → Runner W → Type 0
     IsGroup s n g r = (kind s.tree n ≡ Some Lockstep) × Has s.tree n g × (slice_get s.runners g ≡ Some r)
@@ -196,15 +204,15 @@ module _ {W : Type 0} (next : W → Option (Step W)) (set : Setting) where
         → are_local next set count r ≡ true → InStep count r q
     in_step zero s reached n g h r q a b e = record { local = refl; left = same_left s reached n g h r q a b }
     in_step (suc c) s reached n g h r q a b e =
-        let parts = and_parts (is_local_next (next r.left)) (are_local next set c (after_one next set r)) e in
-        let same : (i : ℕ) (x : Runner W) → slice_get s.runners i ≡ Some x → Has s.tree n i → is_local_next (next x.left) ≡ true
-        = λ i x at has. subst (λ (w : W). is_local_next (next w) ≡ true) (same_left s reached n g i r x a (a.0, has, at)) parts.0 in
+        let parts = and_parts (is_local_next next set (next r.left)) (are_local next set c (after_one next set r)) e in
+        let same : (i : ℕ) (x : Runner W) → slice_get s.runners i ≡ Some x → Has s.tree n i → is_local_next next set (next x.left) ≡ true
+        = λ i x at has. subst (λ (w : W). is_local_next next set (next w) ≡ true) (same_left s reached n g i r x a (a.0, has, at)) parts.0 in
         let x = turn s n (calm s reached) (sound s reached) (many s reached) a.0 same in
         let u = gone_on next set x.round s in
         let reached' = subst Reached x.after (goes x.round s reached x.possible) in
         let more = in_step c u reached' n g h (after_one next set r) (after_one next set q)
         (a.0, a.1, x.at g r a.1 a.2) (b.0, b.1, x.at h q b.1 b.2) parts.1 in
-        record { local = and_from (is_local_next (next q.left)) (are_local next set c (after_one next set q)) (same h q b.2 b.1) more.local; left = more.left }
+        record { local = and_from (is_local_next next set (next q.left)) (are_local next set c (after_one next set q)) (same h q b.2 b.1) more.local; left = more.left }
 
     pub may_together : (count : ℕ) (s : State W) → Reached s → (n g h : ℕ) (r q : Runner W) → IsGroup s n g r → IsGroup s n h q
         → may_act next set count r ≡ true → may_act next set count q ≡ true

@@ -13,7 +13,7 @@ use Rattle.fk_meaning.specs.Request.{address, request}
 use Rattle.fk_meaning.specs.Round.{Runner}
 use Rattle.fk_core.specs.Next.{Position}
 use Rattle.fk_sim_block.specs.Ready.{MayDo}
-use Rattle.fk_replay.specs.Served.{CanAsk}
+use Rattle.fk_replay_steps.specs.Served.{CanAsk}
 
 is_multiprefix : (by : Multiprefix) → is_some (multiprefix_of (multiprefix_kind by)) ≡ true
 is_multiprefix MpAdd = refl

@@ -12,7 +12,7 @@ use Rattle.fk_lockstep_frames.specs.Nests.{Nest, OfFunction, taken, words_in}
 use Rattle.fk_lockstep_frames.specs.Taken.{HasTaken, AreTaken, AreBegun, HasNests, spaces_of, frames_of, lows_of}
 use Rattle.fk_lockstep_frames.specs.Lists.{nests_of, told, GoesOn, HasLocalFrames, HasToldFrames}
 use Rattle.fk_lockstep_frames.proofs.Found.{Found}
-use Rattle.fk_replay.specs.Steps.{CanGiveBack, GivesBack}
+use Rattle.fk_replay_steps.specs.Steps.{CanGiveBack, GivesBack}
 
 -- a frame that is given back was the last one that was taken
 gives : (words : ℕ) (more : List Nest) (p : Processor) → HasNests (OfFunction (Some words) ∷ more) p → CanGiveBack p

@@ -2,3 +2,4 @@ pub mod Forms
 pub mod Carried
 pub mod Replayed
 pub mod Accepted
+pub mod Listed

@@ -14,6 +14,9 @@ ghost use Rattle.fk_replay_source.specs.Answer.{sites_by};
 
 use fk_compile::{List, list_of};
 use fk_compile_text::{Built, Refusal, built_text};
+use fk_lower_names::laws::texts_are_proper;
+use fk_parse_laws::laws::texts_are_trim;
+use fk_replay_lists::laws::lists_can_be_replayed;
 use std::alloc::Global;
 
 /// A text that keeps all rules and has a layout, with its flat list.
@@ -69,5 +72,9 @@ pub fn listed_text<'a>(alloc: Global, source: &'a [u8]) -> Result<Listed<'a>, Re
 {
     let text = built_text(alloc, source)?;
     let list = list_of(alloc, &text)?;
+    // These calls are facts for the proof, and do nothing.
+    texts_are_trim();
+    texts_are_proper();
+    lists_can_be_replayed();
     Ok(Listed { text, list })
 }

@@ -1,0 +1,64 @@
+-- A run in memory, and what a round makes of it.
+use Rattle.std.specs.Prelude.{◌≡◌, ℕ, ◌+◌, ◌≤◌, ◌^◌, true, List, Some, None, vec_len}
+use Rattle.fk_tree.specs.View.{tree_of, processors}
+use Rattle.fk_meaning_store.specs.View.{store_of, processors_of}
+use Rattle.fk_meaning_state.specs.View.{setting_of}
+use Rattle.fk_meaning.specs.Processor.{Setting}
+use Rattle.fk_meaning.specs.Round.{State, Round, result, is_possible, IsStopped}
+use Rattle.fk_core.specs.declared.op.CoreOp.{CoreOp}
+use Rattle.fk_core.specs.Next.{Position, next}
+use Rattle.fk_replay_rounds.specs.Own.{AreOwn}
+use Rattle.fk_replay_phases.specs.Present.{AreNone}
+use Rattle.fk_replay_phases.specs.Actors.{HaveNone, runners_of, fault_of}
+use Rattle.fk_replay_phases.specs.Modes.{HaveModes}
+use Rattle.fk_replay_phases.specs.declared.phases.Fault.{Fault}
+use Rattle.fk_replay.specs.declared.run.Run.{Run}
+use Rattle.fk_replay.specs.declared.rounds.Outcome.{Outcome}
+use Rattle.fk_replay.specs.declared.rounds.Outcome.TheVariants.{Possible, Stopped, NotPossible}
+
+-- the state that a run holds, which hasn't faulted
+abbrev pub state_of : Run → State Position
+state_of run = record {
+  store = store_of run.store;
+  tree = tree_of run.tree;
+  runners = runners_of run.actors.items;
+  fault = None;
+}
+
+-- nobody is in a round, and all parts have the same processors
+pub record IsRun (run : Run) : Type 0 where
+  pub few : processors run.tree ≤ 1024
+  pub setting : run.setting.processors ≡ processors run.tree
+  pub store : processors_of run.store ≡ processors run.tree
+  pub actors : vec_len run.actors ≡ processors run.tree
+  pub counts : AreNone (processors run.tree) run.counts.items
+  pub free : HaveNone run.actors.items
+  pub modes : HaveModes (tree_of run.tree) run.actors.items
+  pub own : AreOwn (runners_of run.actors.items)
+
+module _ (core : List CoreOp) (round : Round) (old new : Run) where
+  abbrev pub set_in : Setting
+  set_in = setting_of old.setting
+
+  -- the round is possible, and was done
+  pub record IsDone : Type 0 where
+    pub possible : is_possible (next core) set_in round (state_of old) ≡ true
+    pub state : state_of new ≡ result (next core) set_in round (state_of old)
+    pub run : IsRun new
+    pub same : new.setting ≡ old.setting
+    pub given : (tree_of new.tree).given ≤ (tree_of old.tree).given + 2 ^ 28
+
+  -- the round is stopped by a fault, and the store is as it left it
+  pub record IsStoppedBy (fault : Fault) : Type 0 where
+    pub stopped : IsStopped (next core) set_in round (state_of old)
+    pub fault : (result (next core) set_in round (state_of old)).fault ≡ Some (fault_of core fault)
+    pub store : store_of new.store ≡ (result (next core) set_in round (state_of old)).store
+
+  pub record IsNeither : Type 0 where
+    pub impossible : is_possible (next core) set_in round (state_of old) ≡ true → ⊥
+    pub going_on : IsStopped (next core) set_in round (state_of old) → ⊥
+
+  abbrev pub IsTaken : Outcome → Type 0
+  IsTaken Possible = IsDone
+  IsTaken (Stopped fault) = IsStoppedBy fault
+  IsTaken NotPossible = IsNeither

@@ -1,0 +1,4 @@
+pub mod Present
+pub mod Sparse
+pub mod Begins
+pub mod Requests

@@ -1,0 +1,5 @@
+pub mod Safe
+pub mod Present
+pub mod Actors
+pub mod Modes
+pub mod Joints

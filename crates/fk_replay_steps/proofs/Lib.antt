@@ -1,0 +1,6 @@
+pub mod Ends
+pub mod Landing
+pub mod Counted
+pub mod Words
+pub mod Arguments
+pub mod Passing

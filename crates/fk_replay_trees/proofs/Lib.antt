@@ -1,0 +1,3 @@
+pub mod Changing
+pub mod Loop
+pub mod Settling
