@@ -94,4 +94,4 @@ texts_tell_one_trace text harts other last more ss ts a b =
     let same = decimal_injective harts other (omega (arith, few)) (omega (arith, low)) (append_cancel_left (codes "harts ") (decimal harts) (decimal other) parts.0) in
     let order = subst (λ h. AreInOrder h more 0 0 ts) (sym same) b.body.order in
     let bodies = same_lines harts last more 0 0 0 0 ss ts (omega (arith, few)) a.body.word b.body.word a.body.order order (sym a.body.spells ∙ parts.1 ∙ b.body.spells) in
-    record { harts = same; cycles = bodies.1; lines = bodies.0 }
+    record { same_harts = same; same_cycles = bodies.1; same_lines = bodies.0 }
