@@ -1,5 +1,5 @@
 -- The endings of a replay.
-use Rattle.std.proofs.Common.{◌≡◌, ℕ, List, Option, Some, None, Result, Ok, Err, IfOk, length, refl, sym, ap, subst, ◌∙◌, ◌⊎◌, inl, inr}
+use Rattle.std.proofs.Common.{◌≡◌, ℕ, List, Option, Some, None, Result, Ok, Err, IfOk, length, sym, ap, subst, ◌∙◌, ◌⊎◌, inl, inr}
 use Rattle.std.specs.Prelude.{IsErr, IsOkAnd, MatchOption, option_map}
 use Rattle.std.specs.declared.alloc.AllocError.{AllocError}
 use Rattle.fk_syntax.specs.declared.facts.Facts.{Facts}
@@ -9,9 +9,9 @@ use Rattle.fk_replay_text.specs.declared.fault.ReplayFault.TheVariants.{BadTrace
 use Rattle.fk_replay_text.specs.declared.trace.Trace.{Trace}
 use Rattle.fk_replay_text.specs.Lines.{IsBadLine}
 use Rattle.fk_replay_text.specs.Rounds.{schedule_of}
-use Rattle.fk_replay_text.specs.Trace.{IsTraceText, Told, moments_of}
+use Rattle.fk_replay_text.specs.Trace.{IsTraceText, moments_of}
 use Rattle.fk_trace.specs.Text.{Range}
-use Rattle.fk_replay_text.specs.View.{IsTold, moment_of}
+use Rattle.fk_replay_text.specs.View.{IsTold}
 use Rattle.fk_replay.specs.declared.end.Replayed.{Replayed}
 use Rattle.fk_replay.specs.Replay.{schedule_in}
 use Rattle.fk_replay_source.specs.Answer.{IsAnswerFor, sites_by}
@@ -23,7 +23,7 @@ use Rattle.fk_top.specs.declared.status.Status.TheVariants.{TraceRefused}
 use Rattle.fk_top.specs.Ending.{outcome_of}
 use Rattle.fk_top.specs.Report.{line_of}
 use Rattle.fk_top.specs.Refused.{trace_report_of}
-use Rattle.fk_top.specs.Outcome.{Outcome, AnswersOn, EndsReplay, RefusesInputBeside, RefusesTrace, ReplaysTrace, answered, most_numbers, replayed, silent}
+use Rattle.fk_top.specs.Outcome.{Outcome, AnswersOn, EndsReplay, RefusesInputBeside, RefusesTrace, answered, most_numbers, silent}
 
 -- bytes that are no trace text are refused with the report of their first bad line
 pub refusing_trace : (bytes : List ℕ) (fault : ReplayFault) (report : Option Report) (r : Result Ending AllocError) (Q : Ending → Type 0)

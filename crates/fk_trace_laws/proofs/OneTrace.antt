@@ -7,13 +7,13 @@ use Rattle.fk_trace.specs.declared.column.Column.{Column}
 use Rattle.fk_trace.specs.Text.{Range, first_lines, last_line}
 use Rattle.fk_replay_text.specs.Fields.{SpellsRange, field_text}
 use Rattle.fk_replay_text.specs.Texts.{Lacks}
-use Rattle.fk_replay_text.specs.Trace.{AreInOrder, IsLine, IsRange, IsTrace, Rise, Told, all_told_text, told_text}
+use Rattle.fk_replay_text.specs.Trace.{AreInOrder, IsLine, IsRange, Rise, Told, all_told_text, told_text}
 use Rattle.fk_replay_text.proofs.Cutting.{cut_once, lacks_append, lacks_by, word_once}
 use Rattle.fk_replay_text.proofs.Decimals.{decimal_lacks}
 use Rattle.fk_replay_text.proofs.Fields.{field_lacks, field_once, shown, spells_own}
 use Rattle.fk_replay_text.proofs.Ranges.{ranges_stop, text_of}
 use Rattle.fk_replay_text.proofs.Told.{body_of, end_is, end_lacks, end_of, last_once, not_last, told_is, told_lacks, told_once}
-use Rattle.fk_trace_laws.specs.Traced.{IsSameTrace, TextsTellOneTrace}
+use Rattle.fk_trace_laws.specs.Traced.{TextsTellOneTrace}
 
 -- ---- the ranges of a line
 

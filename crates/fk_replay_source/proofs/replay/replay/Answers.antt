@@ -1,4 +1,4 @@
-use Rattle.std.proofs.Common.{◌≡◌, ℕ, ◌+◌, ◌^◌, ◌<◌, ◌≤◌, List, length, ◌∙◌, sym, ap, subst, arith}
+use Rattle.std.proofs.Common.{◌^◌, ◌<◌, List, length, ◌∙◌, sym, ap, subst, arith}
 use Rattle.fk_syntax.specs.ProgramView.{program_of}
 use Rattle.fk_meaning_forms.specs.Program.{main_of}
 use Rattle.fk_layout.specs.Layout.{tables_by}

@@ -1,18 +1,10 @@
-use Rattle.std.proofs.Common.{◌≡◌, ℕ, ◌+◌, ◌≤◌, List, Option, Some, None, Result, Ok, Err, inl, inr, length, refl, sym, ap, subst, ◌∙◌, ◌⊎◌, arith}
-use Rattle.std.specs.Prelude.{IfOk, IsErr, IsOkAnd, MatchOption}
-use Rattle.std.specs.declared.alloc.AllocError.{AllocError}
+use Rattle.std.proofs.Common.{ℕ, length, sym, ap, ◌∙◌, arith}
 use Rattle.fk_syntax.specs.ProgramView.{program_of}
-use Rattle.fk_replay_text.specs.declared.fault.ReplayFault.{ReplayFault}
-use Rattle.fk_replay_text.specs.Rounds.{schedule_of}
-use Rattle.fk_replay_source.specs.Answer.{IsAnswerFor, sites_by}
 use Rattle.fk_compile.specs.Faithful.{words_by}
-use Rattle.fk_top_input.specs.declared.fault.InputFault.TheVariants.{Memory}
 use Rattle.fk_top_input.specs.Input.{input_of}
-use Rattle.fk_top.specs.Ending.{outcome_of}
 use Rattle.fk_top.specs.Outcome.{most_numbers}
 use Rattle.fk_top.proofs.Inputs.{few_numbers}
-use Rattle.fk_top.proofs.Refusing.{refusing_input_beside}
-use Rattle.fk_top.proofs.Replaying.{answers, ends_trace, refusing_trace, untold}
+use Rattle.fk_top.proofs.Replaying.{refusing_trace}
 use Rattle.fk_top.proofs.replay.replay_listed.Goals as goal
 
 pub replay-requires-clause-room : goal.replay-requires-clause-room
