@@ -208,6 +208,10 @@ def trace(name, harts=1, cycles=1000000):
     return ["trace", name, "--harts", str(harts), "--cycles", str(cycles)]
 
 
+def replay(name, trace):
+    return ["replay", name, trace]
+
+
 def build(name, to):
     return ["build", name, "-o", to]
 
@@ -266,6 +270,10 @@ NO_COMMAND = [
     ["selftest", ""],
     ["selftest", "6", "6"],
     ["selftest", "6", "--harts", "64"],
+    ["replay", "sums.f95"],
+    ["replay", "sums.f95", "sums.f95", "sums.f95"],
+    ["replay", "sums.f95", "sums.f95", "--harts", "1"],
+    ["replay", "sums.f95", "-o", "sums.f95"],
     ["elf", "halt.image"],
     ["unelf", "halt.elf", "more", "-o", "none.image"],
     ["elf", "halt.image", "--harts", "1", "-o", "none.elf"],
@@ -805,6 +813,125 @@ ROWS += [
     Row(trace("absent.f95"), 3, b"", r"read fault\n"),
     Row(trace("nothing.f95"), 4, b"", "", out_to="/dev/full"),
     Row(trace("nothing.f95", harts=1025), 2, b"", r"refused command line\n"),
+]
+
+
+# A text's program under a schedule that is told.
+FILES["branches.f95"] = b"sh int x; void main(void) { start { if ($ < 2) x = 1; else x = 2; } }"
+
+
+def told(harts, *lines, last=b"\n"):
+    """The name of a file with a trace of these lines behind the first two."""
+    name = f"told {len(FILES)}.trace"
+    FILES[name] = "\n".join(["fork95 trace 1", f"harts {harts}", *lines]).encode() + last
+    return name
+
+
+def replays(name, harts, lines, status, report, out=b"", given=b""):
+    """A row of a replay of lines that are written in one word, as `c 1 0-0*1, end 1`."""
+    return Row(replay(name, told(harts, *lines.split(", "))), status, out, report, given=given)
+
+
+def bad_line(number):
+    return rf"refused 24 BadTrace {number}\n"
+
+
+def not_possible(number):
+    return rf"refused 25 NotPossible {number}\n"
+
+
+def passed_over(number, processor):
+    return rf"refused 26 Pace {number} {processor}\n"
+
+
+def finished(cycles):
+    return rf"finished after {cycles} cycles\n"
+
+
+def stopped(cycles):
+    return rf"stopped after {cycles} cycles\n"
+
+
+# const, const, const, binary, write; drop, const, read; outint; halt
+ONE_SUM = "c 1 0-0*5, c 2 0-0*3, c 3 0-0*1, c 4 0-0*1"
+# get; begin; const, get, write; drop, end; resume; halt
+RANKS = "c 1 0-3*1, c 2 0-3*1, c 3 0-3*3, c 4 0-3*2, c 5 0-3*1, c 6 0-3*1"
+# get; begin; get, const, binary, split; in each part const, const, write; drop, end; resume; end; resume; halt
+BRANCHES = "c 1 0-3*1, c 2 0-3*1, c 3 0-3*4, c 4 0-1*3, c 5 2-3*3, c 6 0-3*2, c 7 0-3*1, c 8 0-3*1, c 9 0-3*1, c 10 0-3*1"
+ROWS += [
+    replays("nothing.f95", 1, "c 1 0-0*1, end 1", 0, finished(1)),
+    replays("nothing.f95", 1, "c 1 0-0*2, end 1", 11, not_possible(1)),
+    replays("nothing.f95", 1, "end 0", 7, stopped(0)),
+    # a processor that could act before each of 256 rounds
+    replays("nothing.f95", 1, "end 255", 7, stopped(255)),
+    replays("nothing.f95", 1, "end 256", 11, passed_over(256, 0)),
+    replays("nothing.f95", 1, "end 257", 11, passed_over(256, 0)),
+    replays("nothing.f95", 1, "end 300", 11, passed_over(256, 0)),
+    replays("nothing.f95", 1, "c 255 0-0*1, end 300", 0, finished(300)),
+    replays("nothing.f95", 1, "c 256 0-0*1, end 256", 0, finished(256)),
+    replays("nothing.f95", 1, "c 257 0-0*1, end 257", 11, passed_over(256, 0)),
+    replays("nothing.f95", 3, "c 1 0-0*1 2-2*1, end 255", 7, stopped(255)),
+    replays("nothing.f95", 3, "c 1 0-0*1 2-2*1, end 256", 11, passed_over(256, 1)),
+    replays("nothing.f95", 3, "c 9 1-1*1, c 257 0-0*1 2-2*1, end 257", 11, passed_over(256, 0)),
+    # in one round that isn't possible and is late the former counts, and else the earlier round
+    replays("nothing.f95", 2, "c 256 0-0*2, end 256", 11, not_possible(256)),
+    replays("nothing.f95", 2, "c 257 0-0*2, end 257", 11, passed_over(256, 0)),
+    # who waits for others is not passed over
+    replays("ranks.f95", 4, "c 1 0-2*1, c 255 3-3*1, c 510 0-3*1, end 510", 7, stopped(510)),
+    replays("ranks.f95", 4, "c 1 0-2*1, c 255 3-3*1, end 511", 11, passed_over(511, 0)),
+    # the whole program, and all but its last operation
+    replays("sums.f95", 1, ONE_SUM + ", end 4", 0, finished(4), b"5\n"),
+    replays("sums.f95", 1, ONE_SUM + ", end 200", 0, finished(200), b"5\n"),
+    replays("sums.f95", 1, ", ".join(f"c {9 * cycle} 0-0*1" for cycle in range(1, 11)) + ", end 99", 0, finished(99), b"5\n"),
+    replays("sums.f95", 1, ONE_SUM.replace(", c 4 0-0*1", ", end 4"), 7, stopped(4), b"5\n"),
+    replays("sums.f95", 1, ONE_SUM + ", c 5 0-0*1, end 5", 11, not_possible(5)),
+    # an operation too many, which isn't local, in a round
+    replays("sums.f95", 1, ONE_SUM.replace("0-0*5", "0-0*6") + ", end 4", 11, not_possible(1)),
+    replays("sums.f95", 1, ONE_SUM.replace("0-0*3", "0-0*4") + ", end 4", 11, not_possible(2)),
+    replays("sums.f95", 1, ONE_SUM.replace("0-0*3", "0-0*2") + ", end 4", 7, stopped(4)),
+    # a group acts whole: one of its members is dropped, or does another count
+    replays("ranks.f95", 4, RANKS + ", end 6", 0, finished(6)),
+    replays("ranks.f95", 4, RANKS.replace("c 3 0-3*3", "c 3 0-2*3") + ", end 6", 11, not_possible(3)),
+    replays("ranks.f95", 4, RANKS.replace("c 3 0-3*3", "c 3 0-1*3 2-2*2 3-3*3") + ", end 6", 11, not_possible(3)),
+    replays("ranks.f95", 4, RANKS.replace("c 3 0-3*3", "c 3 0-3*2") + ", end 6", 11, not_possible(4)),
+    replays("ranks.f95", 4, RANKS.replace("c 4 0-3*2", "c 4 0-3*3") + ", end 6", 11, not_possible(4)),
+    replays("ranks.f95", 4, RANKS.replace("c 4 0-3*2", "c 4 1-3*2") + ", end 6", 11, not_possible(4)),
+    # all who wait begin and resume in one round, each with count 1
+    replays("ranks.f95", 4, RANKS.replace("c 2 0-3*1", "c 2 0-2*1") + ", end 6", 11, not_possible(2)),
+    replays("ranks.f95", 4, RANKS.replace("c 1 0-3*1, c 2 0-3*1", "c 2 0-3*2") + ", end 6", 11, not_possible(2)),
+    replays("ranks.f95", 4, RANKS.replace("c 1 0-3*1", "c 1 0-2*1") + ", end 6", 11, not_possible(2)),
+    replays("ranks.f95", 4, RANKS.replace("c 5 0-3*1", "c 5 0-2*1") + ", end 6", 11, not_possible(5)),
+    replays("ranks.f95", 4, RANKS.replace("c 5 0-3*1", "c 5 0-3*2") + ", end 6", 11, not_possible(5)),
+    replays("ranks.f95", 4, RANKS.replace("c 6 0-3*1", "c 6 0-2*1") + ", end 6", 7, stopped(6)),
+    # two groups side by side
+    replays("branches.f95", 4, BRANCHES + ", end 10", 0, finished(10)),
+    replays("branches.f95", 4, BRANCHES.replace("c 4 0-1*3, c 5 2-3*3", "c 4 2-3*3, c 5 0-1*3") + ", end 10", 0, finished(10)),
+    replays("branches.f95", 4, BRANCHES.replace("c 4 0-1*3, c 5 2-3*3", "c 5 0-3*3") + ", end 10", 0, finished(10)),
+    replays("branches.f95", 4, BRANCHES.replace("c 4 0-1*3", "c 4 0-2*3") + ", end 10", 11, not_possible(4)),
+    replays("branches.f95", 4, BRANCHES.replace("c 4 0-1*3", "c 4 0-0*3 2-2*3") + ", end 10", 11, not_possible(4)),
+    replays("branches.f95", 4, BRANCHES.replace("c 5 2-3*3", "c 5 1-1*1 3-3*3") + ", end 10", 11, not_possible(5)),
+    replays("branches.f95", 4, BRANCHES.replace("c 7 0-3*1", "c 7 0-1*1") + ", end 10", 11, not_possible(7)),
+    # what is refused, and in which order
+    Row(replay("nothing.f95", told(1, "c 1 0-0*1", "end 1", last=b"")), 11, b"", bad_line(4)),
+    Row(replay("nothing.f95", told(1, "end 1", last=b"")), 11, b"", bad_line(3)),
+    Row(replay("nothing.f95", told(1, "end 0", last=b"\nx")), 11, b"", bad_line(4)),
+    Row(replay("nothing.f95", "nothing.f95"), 11, b"", bad_line(1)),
+    replays("nothing.f95", 0, "end 1", 11, bad_line(2)),
+    replays("nothing.f95", 1025, "end 1", 11, bad_line(2)),
+    replays("nothing.f95", 1, "c 1 1-1*1, end 1", 11, bad_line(3)),
+    replays("nothing.f95", 1, "c 1 0-0*256, end 1", 11, bad_line(3)),
+    replays("nothing.f95", 1, "c 2 0-0*1, end 1", 11, bad_line(4)),
+    replays("nothing.f95", 1, "c 1 0-0*1, g 1 meet 0-0, g 1 split 0-0, end 1", 11, bad_line(5)),
+    replays("undeclared.f95", 0, "end 1", 1, r"refused 8 Rule 1 at 1:26\n", given=b"x"),
+    replays("nothing.f95", 0, "end 1", 11, bad_line(2), given=b"x"),
+    replays("nothing.f95", 1, "c 1 0-0*2, end 1", 10, r"refused 19 NotANumber 1\n", given=b"x"),
+    Row(replay("nothing.f95", "absent.trace"), 3, b"", r"read fault\n"),
+    Row(replay("absent.f95", "nothing.f95"), 3, b"", r"read fault\n"),
+    Row(replay("nothing.f95", told(1, "c 1 0-0*1", "end 1")), 3, b"", r"read fault\n", given_from="."),
+    Row(replay("sums.f95", told(1, *ONE_SUM.split(", "), "end 4")), 4, b"", "", out_to="/dev/full"),
+    Row(["replay", "--", "nothing.f95", told(1, "end 0")], 7, b"", stopped(0)),
+    Row(["replay", "nothing.f95", "--", told(1, "end 0")], 7, b"", stopped(0)),
+    Row(["replay", "nothing.f95", told(1, "end 0"), "--"], 7, b"", stopped(0)),
 ]
 
 

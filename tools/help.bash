@@ -11,6 +11,7 @@ Usage:
   fork95 unelf FILE -o IMAGE                           make the image of such a file
   fork95 audit FILE --harts P --cycles N               compile, run, and tell which PRAM the run needed
   fork95 trace FILE --harts P --cycles N               compile, run, and tell who does what when
+  fork95 replay FILE TRACE                             check a trace against FILE alone, and print what it prints
   fork95 selftest COUNT                                compile and run a generated text of so many statements
   fork95 locks                                         print the text of the fair lock
   fork95 explain RULE|NAME                             explain a rule (1 to 40) or the name in a report
@@ -94,7 +95,8 @@ help_with() {
     elif [ "$report" = "refused command line" ]; then
         help_with_words "$@"
     elif [ "$status" = 3 ]; then
-        if [ -e "$file" ]; then echo "$file or standard input could not be read."; else echo "There is no file $file."; fi
+        if [ "$1" = replay ] && [ -e "$file" ]; then echo "$file, the trace or standard input could not be read."
+        elif [ -e "$file" ]; then echo "$file or standard input could not be read."; else echo "There is no file $file."; fi
     elif [ "$status" = 4 ]; then
         echo "A file or an output could not be written."
     elif [ "$status" = 5 ]; then
@@ -112,6 +114,7 @@ help_with_words() {
             done ;;
         build | elf | unelf) [[ " $* " == *" -o"* ]] || echo "$1 needs -o and the name of a file." ;;
         locks) echo "locks takes no further words." ;;
+        replay) echo "replay needs a source and a trace, and nothing else." ;;
         selftest) echo "selftest needs a number from 1 to 500, and nothing else." ;;
         list) ;;
         *) echo "${1-} is no command." ;;

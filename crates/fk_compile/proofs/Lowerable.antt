@@ -30,6 +30,7 @@ use Rattle.fk_lower_laws.specs.Laws.{LoweredListsCanHaveGroups, count_of_file}
 use Rattle.fk_compile.specs.OneProgram.{IsLaidOut}
 use Rattle.fk_compile.specs.ListLaws.{ListsHaveBlocks}
 use Rattle.fk_compile.specs.Trees.{ListsAreOfTree}
+use Rattle.fk_compile.proofs.Sites.{sites_are_own}
 use Rattle.fk_compile.specs.Lists.{HasListOf, IsGrouped}
 
 -- what is so of a text that has a layout, where this is known of it
@@ -83,6 +84,7 @@ module _ (program : ProgramTree) (facts : Facts) (known : ProgramTables) (p : Is
       (record {
         can = can;
         blocks = have_blocks (bodies_of tables program) core own.entry p.shaped own.flat can.steady.within.leads;
+        own = sites_are_own known core sites;
         tree = are_of_tree program facts known p.of p.laid core own.entry own.flat told sites;
       })
 

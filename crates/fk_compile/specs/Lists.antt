@@ -13,6 +13,7 @@ use Rattle.fk_gen.specs.declared.placed.Levels.{Levels}
 use Rattle.fk_sim_block.specs.Node.{Gathering}
 use Rattle.fk_gen_list.specs.Laws.{nestings_of}
 use Rattle.fk_sim_runs.specs.Lists.{IsOfTree}
+use Rattle.fk_lockstep_tree.specs.Lists.{HasOwnSites}
 use Rattle.fk_lower_laws.specs.Laws.{CanHaveGroups}
 
 -- The list is flat, has the code of each function at its entry, and that of `main` at this index.
@@ -24,9 +25,11 @@ pub record HasListOf (tables : Tables) (program : ProgramTree) (core : List Core
   pub begins : main ≡ entry (main_of tables program)
 
 -- What is known of the list of a text: code with groups can be made of it, its operations have
--- blocks, and with the levels that are found for it its processors stay in the tree of groups.
+-- blocks, each has a site of its own, and with the levels that are found for it its processors stay
+-- in the tree of groups.
 pub record IsGrouped (core : List CoreOp) (main firsts : ℕ) : Type 0 where
   pub can : CanHaveGroups core main firsts
   pub blocks : HasBlocks core
+  pub own : HasOwnSites core
   pub tree : (saved : List Levels) → AreLevels core saved → (start : Gathering)
       → IsOfTree core (nestings_of saved (level_forks core) start) main

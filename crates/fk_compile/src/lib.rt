@@ -12,3 +12,4 @@ pub mod laws;
 mod list;
 
 pub use compiler::{Compiled, compile};
+pub use list::{List, list_of};

@@ -44,9 +44,9 @@ use std::alloc::{AllocError, Global};
 
 /// The flat list of a text, and the index where its `main` begins.
 #[derive(Drop)]
-pub(crate) struct List {
-    pub(crate) ops: Vec<CoreOp>,
-    pub(crate) main: u32,
+pub struct List {
+    pub ops: Vec<CoreOp>,
+    pub main: u32,
 }
 
 // The list of a text of which everything is known.
@@ -78,7 +78,7 @@ fn lowered(alloc: Global, known: &ProgramTables) -> Result<List, Refusal>
 
 /// The list of a text that keeps all rules and has a layout. Fails only if there isn't enough
 /// memory.
-pub(crate) fn list_of(alloc: Global, text: &Built) -> Result<List, Refusal>
+pub fn list_of(alloc: Global, text: &Built) -> Result<List, Refusal>
     requires checked { (source : Listed ℕ)
         × IsChecked source (program_of text.now.tree) text.now.facts }
     requires laid { IsLayout (program_of text.now.tree) text.now.facts text.now.layout }

@@ -8,12 +8,13 @@ use Rattle.fk_top.specs.declared.ending.PutFile.{PutFile}
 use Rattle.fk_top.specs.declared.report.Report.TheVariants as reports
 use Rattle.fk_top.specs.declared.status.Status.{Status}
 use Rattle.fk_top.specs.declared.status.Status.TheVariants.{ReadFault, WriteFault}
-use Rattle.fk_top_words.specs.Command.{Command, Run, Build, Exec, ListCode, Elf, Unelf, Audit, Trace, Selftest, Locks, Reads}
+use Rattle.fk_top_words.specs.Command.{Command, Run, Build, Exec, ListCode, Elf, Unelf, Audit, Trace, Replay, Selftest, Locks, Reads}
 use Rattle.fk_top.specs.Words.{IsPut}
 use Rattle.fk_top.specs.Report.{line_of}
 use Rattle.fk_top.specs.Ending.{put_of}
-use Rattle.fk_top.specs.Outcome.{Outcome, Writing, Prints, Traces, EndsOn, EndsAudit, ComesTo, silent}
+use Rattle.fk_top.specs.Outcome.{Outcome, Writing, Prints, Traces, EndsOn, EndsAudit, ComesTo, silent, test_harts, test_cycles}
 use Rattle.fk_top.specs.Call.{Given, Request, Sunk, call_of, Ends, HasCause}
+use Rattle.fk_top.proofs.Replayed.{replay_as}
 
 -- the same request, with an equal count of faults
 pub same_ends : (words : List (List ℕ)) (files : Option Files) (input : Given) (before after last : ℕ) (outcome : Outcome) → last ≡ after
@@ -39,25 +40,28 @@ nothing_audited : (image : Image) (text : List ℕ) (p n : ℕ) (outcome : Outco
 nothing_audited image text p n outcome (inl r) = ap (λ (o : Outcome). o.put) r.is
 nothing_audited image text p n outcome (inr r) = ap (λ (o : Outcome). o.put) r.is
 
-pub nothing_by : (words : List (List ℕ)) (command : Command) (bytes text : List ℕ) (outcome : Outcome) → Reads words command → ComesTo command bytes text outcome → ¬ IsPut words → outcome.put ≡ None
-nothing_by words (Run f p n s) bytes text outcome reads (inl r) not = ap (λ (o : Outcome). o.put) r.is
-nothing_by words (Run f p n s) bytes text outcome reads (inr (inl r)) not = ap (λ (o : Outcome). o.put) r.is
-nothing_by words (Run f p n s) bytes text outcome reads (inr (inr r)) not = nothing_run r.image text p n (Prints r.shown) outcome r.ends
-nothing_by words (Build f i) bytes text outcome reads comes not = absurd (not (Build f i, reads, tt))
-nothing_by words (Exec f p n) bytes text outcome reads (inl r) not = ap (λ (o : Outcome). o.put) r.is
-nothing_by words (Exec f p n) bytes text outcome reads (inr r) not = nothing_run r.image text p n (Prints None) outcome r.ends
-nothing_by words (ListCode f) bytes text outcome reads (inl r) not = ap (λ (o : Outcome). o.put) r.is
-nothing_by words (ListCode f) bytes text outcome reads (inr r) not = ap (λ (o : Outcome). o.put) r.is
-nothing_by words (Elf i f) bytes text outcome reads comes not = absurd (not (Elf i f, reads, tt))
-nothing_by words (Unelf f i) bytes text outcome reads comes not = absurd (not (Unelf f i, reads, tt))
-nothing_by words (Audit f p n) bytes text outcome reads (inl r) not = ap (λ (o : Outcome). o.put) r.is
-nothing_by words (Audit f p n) bytes text outcome reads (inr r) not = nothing_audited r.image text p n outcome r.ends
-nothing_by words (Trace f p n) bytes text outcome reads (inl r) not = ap (λ (o : Outcome). o.put) r.is
-nothing_by words (Trace f p n) bytes text outcome reads (inr r) not = nothing_run r.image text p n Traces outcome r.ends
-nothing_by words (Selftest k) bytes text outcome reads (inl r) not = ap (λ (o : Outcome). o.put) r.is
-nothing_by words (Selftest k) bytes text outcome reads (inr (inl r)) not = ap (λ (o : Outcome). o.put) r.is
-nothing_by words (Selftest k) bytes text outcome reads (inr (inr r)) not = nothing_run r.image [] 64 4294967295 (Prints r.shown) outcome r.ends
-nothing_by words Locks bytes text outcome reads is not = ap (λ (o : Outcome). o.put) is
+pub nothing_by : (words : List (List ℕ)) (command : Command) (bytes trace text : List ℕ) (outcome : Outcome) → Reads words command → ComesTo command bytes trace text outcome → ¬ IsPut words → outcome.put ≡ None
+nothing_by words (Run f p n s) bytes trace text outcome reads (inl r) not = ap (λ (o : Outcome). o.put) r.is
+nothing_by words (Run f p n s) bytes trace text outcome reads (inr (inl r)) not = ap (λ (o : Outcome). o.put) r.is
+nothing_by words (Run f p n s) bytes trace text outcome reads (inr (inr r)) not = nothing_run r.image text p n (Prints r.shown) outcome r.ends
+nothing_by words (Build f i) bytes trace text outcome reads comes not = absurd (not (Build f i, reads, tt))
+nothing_by words (Exec f p n) bytes trace text outcome reads (inl r) not = ap (λ (o : Outcome). o.put) r.is
+nothing_by words (Exec f p n) bytes trace text outcome reads (inr r) not = nothing_run r.image text p n (Prints None) outcome r.ends
+nothing_by words (ListCode f) bytes trace text outcome reads (inl r) not = ap (λ (o : Outcome). o.put) r.is
+nothing_by words (ListCode f) bytes trace text outcome reads (inr r) not = ap (λ (o : Outcome). o.put) r.is
+nothing_by words (Elf i f) bytes trace text outcome reads comes not = absurd (not (Elf i f, reads, tt))
+nothing_by words (Unelf f i) bytes trace text outcome reads comes not = absurd (not (Unelf f i, reads, tt))
+nothing_by words (Audit f p n) bytes trace text outcome reads (inl r) not = ap (λ (o : Outcome). o.put) r.is
+nothing_by words (Audit f p n) bytes trace text outcome reads (inr r) not = nothing_audited r.image text p n outcome r.ends
+nothing_by words (Trace f p n) bytes trace text outcome reads (inl r) not = ap (λ (o : Outcome). o.put) r.is
+nothing_by words (Trace f p n) bytes trace text outcome reads (inr r) not = nothing_run r.image text p n Traces outcome r.ends
+nothing_by words (Replay f t) bytes trace text outcome reads (inl r) not = ap (λ (o : Outcome). o.put) r.is
+nothing_by words (Replay f t) bytes trace text outcome reads (inr r) not =
+    replay_as r.program r.facts trace text outcome (λ (o : Outcome). o.put ≡ None) (λ sites run cycles. refl) (λ line. refl) (λ line. refl) r.ends
+nothing_by words (Selftest k) bytes trace text outcome reads (inl r) not = ap (λ (o : Outcome). o.put) r.is
+nothing_by words (Selftest k) bytes trace text outcome reads (inr (inl r)) not = ap (λ (o : Outcome). o.put) r.is
+nothing_by words (Selftest k) bytes trace text outcome reads (inr (inr r)) not = nothing_run r.image [] test_harts test_cycles (Prints r.shown) outcome r.ends
+nothing_by words Locks bytes trace text outcome reads is not = ap (λ (o : Outcome). o.put) is
 
 -- what fails to be put is there
 pub some_file : {A E : Type 0} (put : Option PutFile) (r : Result A E) (e : E) → (put ≡ None → IsOk r) → r ≡ Err e → IsSome (option_map put_of put)
@@ -68,7 +72,7 @@ some_file (Some file) r e nothing is = refl
 pub nothing_of : (request : Request) (outcome : Outcome) → Ends request outcome → ¬ IsPut request.words → outcome.put ≡ None
 nothing_of request outcome (inl none) not = ap (λ (o : Outcome). o.put) none.1
 nothing_of request outcome (inr (inl unread)) not = ap (λ (o : Outcome). o.put) unread.1
-nothing_of request outcome (inr (inr read)) not = nothing_by request.words read.command read.bytes read.text outcome read.reads read.comes_to not
+nothing_of request outcome (inr (inr read)) not = nothing_by request.words read.command read.bytes read.trace read.text outcome read.reads read.comes_to not
 
 -- the faults of what is read are told: they are as before where the answer is neither a write fault nor a read fault
 pub steady_read : {X : Type 0} (outcome : Outcome) (status : Status) → (outcome ≡ silent ReadFault (line_of reports.ReadFault)) ⊎ X

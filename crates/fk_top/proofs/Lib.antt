@@ -1,4 +1,5 @@
 pub mod Readable
+pub mod Replayed
 pub mod Inputs
 pub mod Runs
 pub mod Lost

@@ -3,7 +3,7 @@ use Rattle.std.proofs.Common.{◌≡◌, ℕ, ◌≤◌, List, [], Option, Some,
 use Rattle.std.specs.Prelude.{OnErr}
 use Rattle.std.specs.Io.KnownBytes.{prepend_known}
 use Rattle.fk_ports.specs.Known.{GivesAtMost, MovesFirst}
-use Rattle.fk_top_words.specs.Command.{Command, Run, Build, Exec, ListCode, Elf, Unelf, Audit, Trace, Selftest, Locks}
+use Rattle.fk_top_words.specs.Command.{Command, Run, Build, Exec, ListCode, Elf, Unelf, Audit, Trace, Replay, Selftest, Locks}
 use Rattle.fk_top.specs.Words.{most_input}
 
 pub none_lost : (most : ℕ) (left : Option (List ℕ)) → GivesAtMost most left left
@@ -28,6 +28,7 @@ few_input (Elf image file) = omega arith
 few_input (Unelf file image) = omega arith
 few_input (Audit file harts cycles) = omega arith
 few_input (Trace file harts cycles) = omega arith
+few_input (Replay file trace) = omega arith
 few_input (Selftest statements) = omega arith
 few_input Locks = omega arith
 

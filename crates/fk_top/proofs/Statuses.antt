@@ -10,19 +10,23 @@ use Rattle.fk_compile.specs.Faithful.{IsFaithful}
 use Rattle.fk_compile.specs.Laws.{IsUntrapped}
 use Rattle.fk_compile.proofs.Untrapped.{never_traps}
 use Rattle.fk_top_words.specs.Arguments.{Text}
-use Rattle.fk_top_words.specs.Command.{Command, Run, Build, Exec, ListCode, Elf, Unelf, Audit, Trace, Selftest, Locks, Reads, ReadsRun}
+use Rattle.fk_top_words.specs.Command.{Command, Run, Build, Exec, ListCode, Elf, Unelf, Audit, Trace, Replay, Selftest, Locks, Reads, ReadsRun}
 use Rattle.fk_top.specs.declared.status.Status.{Status}
-use Rattle.fk_top.specs.declared.status.Status.TheVariants.{Done, Refused, SourceFault, CycleBound, Trap, ImageRefused, InputRefused, ElfRefused}
-use Rattle.fk_top.specs.Words.{Runs, IsRun, TakesInput, HasInput, IsExec}
-use Rattle.fk_top.specs.Outcome.{Outcome, Writing, Prints, Traces, EndsOn, EndsAudit, ComesTo, RefusesInput, status_of}
+use Rattle.fk_top.specs.declared.status.Status.TheVariants.{Done, Refused, SourceFault, CycleBound, Trap, ImageRefused, InputRefused, TraceRefused, ElfRefused}
+use Rattle.fk_replay.specs.declared.end.End.{End}
+use Rattle.fk_replay.specs.declared.end.End.TheVariants as ends
+use Rattle.fk_top.specs.Words.{Runs, IsRun, TakesInput, HasInput, IsExec, IsReplay}
+use Rattle.fk_top.specs.Outcome.{Outcome, Writing, Prints, Traces, EndsOn, EndsAudit, ComesTo, RefusesInput, status_of, replay_status, test_harts, test_cycles}
 use Rattle.fk_top.proofs.Inputs.{is_input, none_refused}
+use Rattle.fk_top.proofs.Replayed.{replay_as}
 
--- the command reads a source, or bytes of an image or of an ELF file, or runs an image of bytes
+-- the command reads a source, or bytes of an image, of an ELF file or of a trace, or runs an image of bytes
 abbrev pub ReadsSource : Command → Type 0
 ReadsSource (Run file harts cycles show) = Unit {0}
 ReadsSource (Build file image) = Unit {0}
 ReadsSource (Audit file harts cycles) = Unit {0}
 ReadsSource (Trace file harts cycles) = Unit {0}
+ReadsSource (Replay file trace) = Unit {0}
 ReadsSource (Selftest statements) = Unit {0}
 ReadsSource command = ⊥
 
@@ -36,6 +40,10 @@ abbrev pub ReadsElf : Command → Type 0
 ReadsElf (Unelf file image) = Unit {0}
 ReadsElf command = ⊥
 
+abbrev pub ReadsTrace : Command → Type 0
+ReadsTrace (Replay file trace) = Unit {0}
+ReadsTrace command = ⊥
+
 abbrev pub RunsImage : Command → Type 0
 RunsImage (Exec image harts cycles) = Unit {0}
 RunsImage command = ⊥
@@ -46,6 +54,7 @@ IsOf Done command = Unit {0}
 IsOf Refused command = ReadsSource command
 IsOf ImageRefused command = ReadsImage command
 IsOf ElfRefused command = ReadsElf command
+IsOf TraceRefused command = ReadsTrace command
 IsOf CycleBound command = Runs command
 IsOf InputRefused command = TakesInput command
 IsOf SourceFault command = Runs command
@@ -99,6 +108,12 @@ of_stand image harts cycles Finished = tt
 of_stand image harts cycles (Faulted site hart) = tt
 of_stand image harts cycles (Trapped hart pc kind) = tt
 
+-- how a program ends under a trace
+of_end : (file trace : Text) (end : End) → IsOf (replay_status end) (Replay file trace)
+of_end file trace ends.Running = tt
+of_end file trace ends.Finished = tt
+of_end file trace (ends.Faulted site processor) = tt
+
 -- ---- each command
 
 is_of : (command : Command) (outcome other : Outcome) → outcome ≡ other → IsOf other.status command → IsOf outcome.status command
@@ -122,32 +137,35 @@ of_image : (text : List ℕ) (image : Image) (f : Text) (p n : ℕ) (outcome : O
 of_image text image f p n outcome (inl r) = is_of (Exec f p n) outcome _ r.is tt
 of_image text image f p n outcome (inr r) = is_of (Exec f p n) outcome _ r.is (of_stand f p n (machine image r.input p n).stand)
 
-pub outcome_is_of : (words : List Text) (command : Command) (bytes text : List ℕ) (outcome : Outcome) → Reads words command → ComesTo command bytes text outcome → IsOf outcome.status command
-outcome_is_of words (Run f p n show) bytes text outcome reads (inl r) = is_of (Run f p n show) outcome _ r.is tt
-outcome_is_of words (Run f p n show) bytes text outcome reads (inr (inl r)) = is_of (Run f p n show) outcome _ r.is tt
-outcome_is_of words (Run f p n show) bytes text outcome reads (inr (inr r)) =
+pub outcome_is_of : (words : List Text) (command : Command) (bytes trace text : List ℕ) (outcome : Outcome) → Reads words command → ComesTo command bytes trace text outcome → IsOf outcome.status command
+outcome_is_of words (Run f p n show) bytes trace text outcome reads (inl r) = is_of (Run f p n show) outcome _ r.is tt
+outcome_is_of words (Run f p n show) bytes trace text outcome reads (inr (inl r)) = is_of (Run f p n show) outcome _ r.is tt
+outcome_is_of words (Run f p n show) bytes trace text outcome reads (inr (inr r)) =
     of_source bytes text r.image (Run f p n show) p n (Prints r.shown) outcome tt (λ _. tt) r.compiled (within_run words f p n show reads) r.ends
-outcome_is_of words (Build f i) bytes text outcome reads (inl r) = is_of (Build f i) outcome _ r.is tt
-outcome_is_of words (Build f i) bytes text outcome reads (inr r) = is_of (Build f i) outcome _ r.is tt
-outcome_is_of words (Exec f p n) bytes text outcome reads (inl r) = is_of (Exec f p n) outcome _ r.is tt
-outcome_is_of words (Exec f p n) bytes text outcome reads (inr r) = of_image text r.image f p n outcome r.ends
-outcome_is_of words (ListCode f) bytes text outcome reads (inl r) = is_of (ListCode f) outcome _ r.is tt
-outcome_is_of words (ListCode f) bytes text outcome reads (inr r) = is_of (ListCode f) outcome _ r.is tt
-outcome_is_of words (Elf i f) bytes text outcome reads (inl r) = is_of (Elf i f) outcome _ r.is tt
-outcome_is_of words (Elf i f) bytes text outcome reads (inr r) = is_of (Elf i f) outcome _ r.is tt
-outcome_is_of words (Unelf f i) bytes text outcome reads (inl r) = is_of (Unelf f i) outcome _ r.is tt
-outcome_is_of words (Unelf f i) bytes text outcome reads (inr r) = is_of (Unelf f i) outcome _ r.is tt
-outcome_is_of words (Audit f p n) bytes text outcome reads (inl r) = is_of (Audit f p n) outcome _ r.is tt
-outcome_is_of words (Audit f p n) bytes text outcome reads (inr r) = of_audit bytes text r.image f p n outcome r.compiled (within_audit words f p n reads) r.ends
-outcome_is_of words (Trace f p n) bytes text outcome reads (inl r) = is_of (Trace f p n) outcome _ r.is tt
-outcome_is_of words (Trace f p n) bytes text outcome reads (inr r) =
+outcome_is_of words (Build f i) bytes trace text outcome reads (inl r) = is_of (Build f i) outcome _ r.is tt
+outcome_is_of words (Build f i) bytes trace text outcome reads (inr r) = is_of (Build f i) outcome _ r.is tt
+outcome_is_of words (Exec f p n) bytes trace text outcome reads (inl r) = is_of (Exec f p n) outcome _ r.is tt
+outcome_is_of words (Exec f p n) bytes trace text outcome reads (inr r) = of_image text r.image f p n outcome r.ends
+outcome_is_of words (ListCode f) bytes trace text outcome reads (inl r) = is_of (ListCode f) outcome _ r.is tt
+outcome_is_of words (ListCode f) bytes trace text outcome reads (inr r) = is_of (ListCode f) outcome _ r.is tt
+outcome_is_of words (Elf i f) bytes trace text outcome reads (inl r) = is_of (Elf i f) outcome _ r.is tt
+outcome_is_of words (Elf i f) bytes trace text outcome reads (inr r) = is_of (Elf i f) outcome _ r.is tt
+outcome_is_of words (Unelf f i) bytes trace text outcome reads (inl r) = is_of (Unelf f i) outcome _ r.is tt
+outcome_is_of words (Unelf f i) bytes trace text outcome reads (inr r) = is_of (Unelf f i) outcome _ r.is tt
+outcome_is_of words (Audit f p n) bytes trace text outcome reads (inl r) = is_of (Audit f p n) outcome _ r.is tt
+outcome_is_of words (Audit f p n) bytes trace text outcome reads (inr r) = of_audit bytes text r.image f p n outcome r.compiled (within_audit words f p n reads) r.ends
+outcome_is_of words (Trace f p n) bytes trace text outcome reads (inl r) = is_of (Trace f p n) outcome _ r.is tt
+outcome_is_of words (Trace f p n) bytes trace text outcome reads (inr r) =
     of_source bytes text r.image (Trace f p n) p n Traces outcome tt (λ _. tt) r.compiled (within_trace words f p n reads) r.ends
-outcome_is_of words (Selftest k) bytes text outcome reads (inl r) = is_of (Selftest k) outcome _ r.is tt
-outcome_is_of words (Selftest k) bytes text outcome reads (inr (inl r)) = is_of (Selftest k) outcome _ r.is tt
-outcome_is_of words (Selftest k) bytes text outcome reads (inr (inr r)) =
-    of_source bytes [] r.image (Selftest k) 64 4294967295 (Prints r.shown) outcome tt (λ i. none_refused r.image i.fault i.refused) r.compiled
+outcome_is_of words (Replay f t) bytes trace text outcome reads (inl r) = is_of (Replay f t) outcome _ r.is tt
+outcome_is_of words (Replay f t) bytes trace text outcome reads (inr r) =
+    replay_as r.program r.facts trace text outcome (λ (o : Outcome). IsOf o.status (Replay f t)) (λ sites run cycles. of_end f t run.end) (λ line. tt) (λ line. tt) r.ends
+outcome_is_of words (Selftest k) bytes trace text outcome reads (inl r) = is_of (Selftest k) outcome _ r.is tt
+outcome_is_of words (Selftest k) bytes trace text outcome reads (inr (inl r)) = is_of (Selftest k) outcome _ r.is tt
+outcome_is_of words (Selftest k) bytes trace text outcome reads (inr (inr r)) =
+    of_source bytes [] r.image (Selftest k) test_harts test_cycles (Prints r.shown) outcome tt (λ i. none_refused r.image i.fault i.refused) r.compiled
     (record { some = omega arith; few = omega arith; bound = omega arith }) r.ends
-outcome_is_of words Locks bytes text outcome reads is = is_of Locks outcome _ is tt
+outcome_is_of words Locks bytes trace text outcome reads is = is_of Locks outcome _ is tt
 
 -- what alone runs an image of bytes is `exec`
 pub is_exec : (words : List Text) (command : Command) → Reads words command → RunsImage command → IsExec words
@@ -159,8 +177,23 @@ is_exec words (Elf i f) reads none = absurd none
 is_exec words (Unelf f i) reads none = absurd none
 is_exec words (Audit f p n) reads none = absurd none
 is_exec words (Trace f p n) reads none = absurd none
+is_exec words (Replay f t) reads none = absurd none
 is_exec words (Selftest k) reads none = absurd none
 is_exec words Locks reads none = absurd none
+
+-- what alone refuses a trace is `replay`
+pub is_replay : (words : List Text) (command : Command) → Reads words command → ReadsTrace command → IsReplay words
+is_replay words (Run f p n show) reads none = absurd none
+is_replay words (Build f i) reads none = absurd none
+is_replay words (Exec f p n) reads none = absurd none
+is_replay words (ListCode f) reads none = absurd none
+is_replay words (Elf i f) reads none = absurd none
+is_replay words (Unelf f i) reads none = absurd none
+is_replay words (Audit f p n) reads none = absurd none
+is_replay words (Trace f p n) reads none = absurd none
+is_replay words (Replay f t) reads is = (f, t, reads)
+is_replay words (Selftest k) reads none = absurd none
+is_replay words Locks reads none = absurd none
 
 pub is_run : (words : List Text) (command : Command) → Reads words command → Runs command → IsRun words
 is_run words command reads runs = (command, reads, runs)

@@ -11,20 +11,11 @@ use Rattle.fk_top_words.specs.declared.fault.WordsFault.TheVariants as words
 use Rattle.fk_top.specs.declared.ending.Ending.{Ending}
 use Rattle.fk_top.specs.declared.report.Report.TheVariants as reports
 use Rattle.fk_top.specs.declared.status.Status.TheVariants.{ReadFault, Usage}
-use Rattle.fk_top.specs.Words.{Origin, origin_of, most_input}
+use Rattle.fk_top.specs.Words.{origin_of, trace_origin_of, most_input}
 use Rattle.fk_top.specs.Report.{line_of}
 use Rattle.fk_top.specs.Ending.{outcome_of}
 use Rattle.fk_top.specs.Outcome.{ComesTo, silent}
-use Rattle.fk_top.specs.Call.{Request, Ends, IsSame, IsNoCommand, IsUnread, IsFileUnread, OriginFaults, AreRead}
-
--- the file of this origin could not be read
-pub file_unread : (request : Request) (command : Command) (origin : Origin) → origin ≡ origin_of command → OriginFaults request.files origin request.faults
-    → IsSame request.input.left → IsSame request.input.faults → IsFileUnread request command
-file_unread request command origin same fault left steady = record {
-  fault = subst (λ o. OriginFaults request.files o request.faults) same fault;
-  left = left;
-  steady = steady;
-}
+use Rattle.fk_top.specs.Call.{Request, Ends, IsNoCommand, IsUnread, AreRead}
 
 -- words that are no command have their ending, but want of memory has none
 pub no_command_ends : (r : Result Ending AllocError) (fault : WordsFault) (request : Request) → (fault ≡ words.Usage → IsNoCommand request.words)
@@ -41,17 +32,20 @@ unread_ends (Ok e) Memory request unread is none = absurd (let bad = none refl i
 unread_ends (Err error) fault request unread is none = tt
 
 -- what was read has its ending
-pub read_ends : (r : Result Ending AllocError) (request : Request) (command : Command) (origin : Origin) (bytes slice input text : List ℕ) → origin ≡ origin_of command → slice ≡ bytes → text ≡ input
-    → Reads request.words command → AreRead request.files origin bytes → MovesFirst (most_input command) request.input.left.before request.input.left.after [] input
-    → IfOk r (λ e. ComesTo command slice text (outcome_of e)) → IfOk r (λ e. Ends request (outcome_of e))
-read_ends (Ok e) request command origin bytes slice input text is same also reads are_read moves comes =
+pub read_ends : (r : Result Ending AllocError) (request : Request) (command : Command) (bytes trace input text : List ℕ) → text ≡ input
+    → Reads request.words command → AreRead request.files (origin_of command) bytes → AreRead request.files (trace_origin_of command) trace
+    → MovesFirst (most_input command) request.input.left.before request.input.left.after [] input
+    → IfOk r (λ e. ComesTo command bytes trace text (outcome_of e)) → IfOk r (λ e. Ends request (outcome_of e))
+read_ends (Ok e) request command bytes trace input text also reads are_read trace_is_read moves comes =
     inr (inr (record {
       command = command;
       reads = reads;
       bytes = bytes;
-      are_read = subst (λ o. AreRead request.files o bytes) is are_read;
+      are_read = are_read;
+      trace = trace;
+      trace_is_read = trace_is_read;
       text = input;
       first_input = moves;
-      comes_to = subst (λ t. ComesTo command bytes t (outcome_of e)) also (subst (λ b. ComesTo command b text (outcome_of e)) same comes);
+      comes_to = subst (λ t. ComesTo command bytes trace t (outcome_of e)) also comes;
     }))
-read_ends (Err error) request command origin bytes slice input text is same also reads are_read moves comes = tt
+read_ends (Err error) request command bytes trace input text also reads are_read trace_is_read moves comes = tt

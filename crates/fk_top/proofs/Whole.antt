@@ -3,20 +3,20 @@ use Rattle.std.proofs.Common.{◌≡◌, ◌≢◌, ℕ, List, Option, Some, Non
 use Rattle.std.specs.Prelude.{IsSomeAnd}
 use Rattle.fk_ports.specs.Files.{Files}
 use Rattle.fk_top.specs.declared.status.Status.{Status}
-use Rattle.fk_top.specs.declared.status.Status.TheVariants.{Usage, ReadFault, SourceFault, Trap, InputRefused}
+use Rattle.fk_top.specs.declared.status.Status.TheVariants.{Usage, ReadFault, SourceFault, Trap, InputRefused, TraceRefused}
 use Rattle.fk_top_words.specs.Command.{Command, Reads}
 use Rattle.fk_top_words.proofs.OneCommand.{one_command}
-use Rattle.fk_top.specs.Words.{IsRun, HasInput, IsPut, IsExec, IsFetch, Origin, FirstOf, Generated, Nowhere, origin_of}
+use Rattle.fk_top.specs.Words.{IsRun, HasInput, IsPut, IsExec, IsReplay, IsFetch, Origin, FirstOf, Generated, Nowhere, origin_of, trace_origin_of}
 use Rattle.fk_top.specs.Outcome.{Outcome, Put}
 use Rattle.fk_top.specs.Call.{Call, Request, Stored, HasPut, IsSame, Ends, IsNoCommand, IsUnread, HasRead, HasEnded, HasCause, IsCut, AreCut, FailsToWrite, TellsFaults, IsAbsent, LacksOrigin, AreRead, IsOfAbsent, IsOfNoCommand, IsAnswer}
 use Rattle.fk_top.proofs.Answered.{nothing_of}
-use Rattle.fk_top.proofs.Causes.{ByAnswer, by_answer, puts_by, accepted, unreadable, unaccepted}
-use Rattle.fk_top.proofs.Statuses.{IsOf, outcome_is_of, is_exec, is_run, has_input}
+use Rattle.fk_top.proofs.Causes.{ByAnswer, by_answer, puts_by, accepted, unreadable, untraced, unaccepted}
+use Rattle.fk_top.proofs.Statuses.{IsOf, outcome_is_of, is_exec, is_replay, is_run, has_input}
 
 -- the status of an outcome that a command came to
 status_of_read : (request : Request) (outcome : Outcome) (status : Status) (read : HasRead request outcome) → outcome.status ≡ status → IsOf status read.command
 status_of_read request outcome status read same =
-    subst (λ s. IsOf s read.command) same (outcome_is_of request.words read.command read.bytes read.text outcome read.reads read.comes_to)
+    subst (λ s. IsOf s read.command) same (outcome_is_of request.words read.command read.bytes read.trace read.text outcome read.reads read.comes_to)
 
 -- ---- words that are no command
 
@@ -66,8 +66,11 @@ absent call status cause lost = go (by_answer call status cause)
     of ended (inr (inl unread)) = inl (sym ended.status_is ∙ ap (λ (o : Outcome). o.status) unread.1)
     of ended (inr (inr read)) =
         let same = one_command call.request.words lost.command read.command lost.reads read.reads in
-        absurd (not_read call.request.files (origin_of read.command) read.bytes
-        (subst (λ (c : Command). LacksOrigin call.request.files (origin_of c)) same lost.lacks) read.are_read)
+        elim lost.lacks [
+          | inl file ↦ absurd (not_read call.request.files (origin_of read.command) read.bytes (subst (λ (c : Command). LacksOrigin call.request.files (origin_of c)) same file) read.are_read)
+          | inr trace ↦
+              absurd (not_read call.request.files (trace_origin_of read.command) read.trace (subst (λ (c : Command). LacksOrigin call.request.files (trace_origin_of c)) same trace) read.trace_is_read)
+        ]
 
     go : ByAnswer call status → IsOfAbsent status
     go (inl cut) = inr (inl cut.0)
@@ -129,15 +132,17 @@ answer_of call status cause told fetch left input_faults steady = record {
   absent = absent call status cause;
   write_fault = λ is. write_fault call (subst (HasCause call) is cause);
   told = told;
+  traced = λ is. by_read call TraceRefused (subst (HasCause call) is cause) (λ e. cc) (λ e. cc) (IsReplay call.request.words) (is_replay call.request.words);
   source_fault = λ is. by_read call SourceFault (subst (HasCause call) is cause) (λ e. cc) (λ e. cc) (IsRun call.request.words) (is_run call.request.words);
   trap = λ is. by_read call Trap (subst (HasCause call) is cause) (λ e. cc) (λ e. cc) (IsExec call.request.words) (is_exec call.request.words);
   fetch_faults = fetch;
   input = λ is. by_read call InputRefused (subst (HasCause call) is cause) (λ e. cc) (λ e. cc) (HasInput call.request.words) (has_input call.request.words);
   left = left;
   input_faults = input_faults;
-  complete = λ command bytes text order. accepted call status command bytes text order cause;
-  refused = λ command bytes text order. unreadable call status command bytes text order cause;
-  input_refused = λ command bytes text order. unaccepted call status command bytes text order cause;
+  complete = λ command bytes trace text order. accepted call status command bytes trace text order cause;
+  refused = λ command bytes trace text order. unreadable call status command bytes trace text order cause;
+  trace_refused = λ command bytes trace text order. untraced call status command bytes trace text order cause;
+  input_refused = λ command bytes trace text order. unaccepted call status command bytes trace text order cause;
   files = files call status cause;
   put_faults = steady;
 }

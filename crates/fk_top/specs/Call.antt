@@ -1,7 +1,7 @@
 -- Whole calls: why each ends as it does, and what the store and the sinks have after it.
 use Rattle.std.specs.Prelude.{◌+◌}
 use Rattle.std.specs.Prelude.{◌≡◌, ◌≢◌, ℕ, ◌≤◌, ◌⊎◌, List, [], length, vec_len, Option, Some, None}
-use Rattle.std.specs.Prelude.{IsSome, Ok, codes}
+use Rattle.std.specs.Prelude.{IsSome, Result, Ok, Err, take}
 use Rattle.std.specs.Io.KnownBytes.{append_known}
 use Rattle.fk_num.specs.Limits.{most_text_bytes}
 use Rattle.fk_ports.specs.Faults.{HasRisen}
@@ -13,24 +13,31 @@ use Rattle.fk_image.specs.declared.Image.{Image}
 use Rattle.fk_image.specs.Spelling.{IsImageOf}
 use Rattle.fk_elf.specs.Files.{IsElfOf}
 use Rattle.fk_machine.specs.Run.{machine}
+use Rattle.fk_replay_text.specs.Rounds.{schedule_of}
+use Rattle.fk_replay_text.specs.Trace.{IsTrace, IsTraceText, Told, moments_of}
+use Rattle.fk_replay_text.specs.declared.fault.ReplayFault.{ReplayFault}
+use Rattle.fk_replay.specs.declared.end.Replayed.{Replayed}
+use Rattle.fk_replay_source.specs.Answer.{IsAnswerFor}
 use Rattle.fk_layout_globals.specs.Rows.{Row}
 use Rattle.fk_compile_text.specs.Text.{HasLayout, IsChecked}
 use Rattle.fk_compile.specs.Faithful.{IsFaithful, words_by}
 use Rattle.fk_top_input.specs.Input.{input_of}
 use Rattle.fk_top_words.specs.Command.{Command, Run, Build, Exec, ListCode, Elf}
-use Rattle.fk_top_words.specs.Command.{Unelf, Audit, Trace, Selftest, Locks, Reads}
+use Rattle.fk_top_words.specs.Command.{Unelf, Audit, Trace, Replay, Selftest, Locks, Reads}
 use Rattle.fk_top_selftest.specs.Generated.{generated}
 use Rattle.fk_top.specs.declared.report.Report.TheVariants as reports
 use Rattle.fk_top.specs.declared.status.Status.{Status}
 use Rattle.fk_top.specs.declared.status.Status.TheVariants.{Done, Refused, Usage, ReadFault}
 use Rattle.fk_top.specs.declared.status.Status.TheVariants.{WriteFault, Memory, SourceFault, Trap}
 use Rattle.fk_top.specs.declared.status.Status.TheVariants.{ImageRefused, InputRefused}
-use Rattle.fk_top.specs.declared.status.Status.TheVariants.{ElfRefused}
-use Rattle.fk_top.specs.Words.{IsRun, TakesInput, HasInput, Puts, IsPut, IsExec, IsFetch}
-use Rattle.fk_top.specs.Words.{Origin, FirstOf, Generated, Nowhere, origin_of, most_input}
+use Rattle.fk_top.specs.declared.status.Status.TheVariants.{TraceRefused, ElfRefused}
+use Rattle.fk_top.specs.Words.{IsRun, TakesInput, HasInput, Puts, IsPut, IsExec, IsReplay, IsFetch}
+use Rattle.fk_top.specs.Words.{Origin, FirstOf, Generated, Nowhere, origin_of, trace_origin_of}
+use Rattle.fk_top.specs.Words.{most_input, most_trace_bytes}
 use Rattle.fk_top.specs.Report.{line_of}
-use Rattle.fk_top.specs.Outcome.{Put, Outcome, silent, status_of, IsShown, most_numbers}
-use Rattle.fk_top.specs.Outcome.{numbers_for, ComesTo}
+use Rattle.fk_top.specs.Outcome.{Put, Outcome, silent, status_of, replay_status, IsShown}
+use Rattle.fk_top.specs.Outcome.{most_numbers}
+use Rattle.fk_top.specs.Outcome.{numbers_for, test_harts, test_cycles, test_shown, ComesTo}
 
 -- ---- the outside, before and after a call
 
@@ -143,13 +150,15 @@ AreRead files (FirstOf file most) bytes =
 AreRead files (Generated statements) bytes = bytes ≡ generated statements
 AreRead files Nowhere bytes = bytes ≡ []
 
--- The file of a command could not be read, and nothing was taken from the input.
+-- The file of a command, or the trace beside it, could not be read, and nothing was taken from the
+-- input.
 pub record IsFileUnread (request : Request) (command : Command) : Type 0 where
   pub fault : OriginFaults request.files (origin_of command) request.faults
+      ⊎ OriginFaults request.files (trace_origin_of command) request.faults
   pub left : IsSame request.input.left
   pub steady : IsSame request.input.faults
 
--- The file of a command was read, but its input could not be read.
+-- What a command reads from the store was read, but its input could not be read.
 pub record IsInputUnread (request : Request) (command : Command) : Type 0 where
   pub takes : TakesInput command
   pub fetched : IsSame request.faults
@@ -163,17 +172,19 @@ pub record IsUnread (request : Request) : Type 0 where
   pub cause : IsFileUnread request command ⊎ IsInputUnread request command
 
 -- The words are a command, and its bytes were read: the first ones of its file, if the store's
--- files are known, or its generated text. If the command takes an input, then the first bytes of
--- the input were read too, if these are known.
+-- files are known, or its generated text; and so were those of the trace beside it. If the command
+-- takes an input, then the first bytes of the input were read too, if these are known.
 pub record HasRead (request : Request) (outcome : Outcome) : Type 0 where
   pub command : Command
   pub reads : Reads request.words command
   pub bytes : List ℕ
   pub are_read : AreRead request.files (origin_of command) bytes
+  pub trace : List ℕ
+  pub trace_is_read : AreRead request.files (trace_origin_of command) trace
   pub text : List ℕ
   pub first_input : MovesFirst
       (most_input command) request.input.left.before request.input.left.after [] text
-  pub comes_to : ComesTo command bytes text outcome
+  pub comes_to : ComesTo command bytes trace text outcome
 
 -- Why a call has an outcome.
 abbrev pub Ends : Request → Outcome → Type 0
@@ -245,13 +256,14 @@ LacksOrigin files (FirstOf file most) = LacksFile files file
 LacksOrigin files (Generated statements) = ⊥
 LacksOrigin files Nowhere = ⊥
 
--- The words are a command, and the store's files are known and don't have the file that it reads.
+-- The words are a command, and the store's files are known and don't have a file that it reads.
 pub record IsAbsent (request : Request) : Type 0 where
   pub command : Command
   pub reads : Reads request.words command
   pub lacks : LacksOrigin request.files (origin_of command)
+      ⊎ LacksOrigin request.files (trace_origin_of command)
 
--- The statuses where that file is absent.
+-- The statuses where such a file is absent.
 abbrev pub IsOfAbsent : Status → Type 0
 IsOfAbsent status = (status ≡ ReadFault) ⊎ (status ≡ WriteFault) ⊎ (status ≡ Memory)
 
@@ -272,10 +284,12 @@ AreThere files (Generated statements) bytes = bytes ≡ generated statements
 AreThere files Nowhere bytes = bytes ≡ []
 
 -- The words are a command. The store has its file, with these bytes, or they are its generated
--- text. What is left of the input is this text, and no count of faults rose in the call.
-pub record IsInOrder (call : Call) (command : Command) (bytes text : List ℕ) : Type 0 where
+-- text; and it has the trace beside it. What is left of the input is this text, and no count of
+-- faults rose in the call.
+pub record IsInOrder (call : Call) (command : Command) (bytes trace text : List ℕ) : Type 0 where
   pub reads : Reads call.request.words command
   pub there : AreThere call.request.files (origin_of command) bytes
+  pub trace_there : AreThere call.request.files (trace_origin_of command) trace
   pub left : TakesInput command → call.request.input.left.before ≡ Some text
   pub fetch_steady : ¬ Rose call.request.faults
   pub input_steady : TakesInput command → ¬ Rose call.request.input.faults
@@ -308,9 +322,15 @@ IsReadable (Elf image file) bytes = IsImage bytes
 IsReadable (Unelf file image) bytes = IsElf bytes
 IsReadable (Audit file harts cycles) source = IsText source
 IsReadable (Trace file harts cycles) source = IsText source
+IsReadable (Replay file trace) source = IsText source
 IsReadable (Selftest statements) source = IsText source × (shown : Option Row)
-    × IsShown source (Some (codes "c")) shown
+    × IsShown source test_shown shown
 IsReadable Locks bytes = Unit {0}
+
+-- The trace that a command reads is in order: its first 2^47 bytes are a trace text.
+abbrev pub IsTraced : Command → List ℕ → Type 0
+IsTraced (Replay file name) trace = IsTraceText (take most_trace_bytes trace)
+IsTraced command trace = Unit {0}
 
 -- The text has numbers, and no more than there may be beside this many globals.
 abbrev pub IsInputBeside : ℕ → List ℕ → Type 0
@@ -334,6 +354,7 @@ IsAccepted (Elf image file) bytes text = Unit {0}
 IsAccepted (Unelf file image) bytes text = Unit {0}
 IsAccepted (Audit file harts cycles) source text = IsInputOfText source text
 IsAccepted (Trace file harts cycles) source text = IsInputOfText source text
+IsAccepted (Replay file trace) source text = IsInputOfText source text
 IsAccepted (Selftest statements) source text = Unit {0}
 IsAccepted Locks bytes text = Unit {0}
 
@@ -348,25 +369,49 @@ abbrev pub IsOfRun : List ℕ → List ℕ → ℕ → ℕ → Status → Type 0
 IsOfRun source text harts cycles status =
     (image : Image) × IsFaithful source image × IsOfStand image text harts cycles status
 
--- The statuses where both are in order: Memory, that of the run of an image of the source or of the
--- bytes, or Done.
-abbrev pub IsOfAccepted : Command → List ℕ → List ℕ → Status → Type 0
-IsOfAccepted (Run file harts cycles show) source text status =
+-- The status for the answer of a replay: that of how the program ends, or a refusal. Want of memory
+-- has another.
+abbrev pub IsOfAnswer : Result Replayed ReplayFault → Status → Type 0
+IsOfAnswer (Ok run) status = status ≡ replay_status run.end
+IsOfAnswer (Err fault) status = status ≡ TraceRefused
+
+-- The status for the run of a text's program under the rounds of a trace.
+pub record IsOfReplay (source trace text : List ℕ) (status : Status) : Type 0 where
+  pub program : ProgramTree
+  pub facts : Facts
+  pub checked : IsChecked source program facts
+  pub harts : ℕ
+  pub cycles : ℕ
+  pub lines : List Told
+  pub told : IsTrace harts cycles lines (take most_trace_bytes trace)
+  pub input : List ℕ
+  pub numbers : input_of (most_numbers (length (words_by program facts))) text ≡ Ok input
+  pub answer : Result Replayed ReplayFault
+  pub is_answer : IsAnswerFor program facts input harts
+      (schedule_of harts (moments_of lines) cycles) answer
+  pub status_is : IsOfAnswer answer status
+
+-- The statuses where all is in order: Memory, that of the run of an image of the source or of the
+-- bytes, that of a replay, or Done.
+abbrev pub IsOfAccepted : Command → (bytes trace text : List ℕ) → Status → Type 0
+IsOfAccepted (Run file harts cycles show) source trace text status =
     (status ≡ Memory) ⊎ IsOfRun source text harts cycles status
-IsOfAccepted (Build file image) source text status = (status ≡ Memory) ⊎ (status ≡ Done)
-IsOfAccepted (Exec image harts cycles) bytes text status =
+IsOfAccepted (Build file image) source trace text status = (status ≡ Memory) ⊎ (status ≡ Done)
+IsOfAccepted (Exec image harts cycles) bytes trace text status =
     (status ≡ Memory)
     ⊎ ((read : Image) × IsImageOf bytes read × IsOfStand read text harts cycles status)
-IsOfAccepted (ListCode image) bytes text status = (status ≡ Memory) ⊎ (status ≡ Done)
-IsOfAccepted (Elf image file) bytes text status = (status ≡ Memory) ⊎ (status ≡ Done)
-IsOfAccepted (Unelf file image) bytes text status = (status ≡ Memory) ⊎ (status ≡ Done)
-IsOfAccepted (Audit file harts cycles) source text status =
+IsOfAccepted (ListCode image) bytes trace text status = (status ≡ Memory) ⊎ (status ≡ Done)
+IsOfAccepted (Elf image file) bytes trace text status = (status ≡ Memory) ⊎ (status ≡ Done)
+IsOfAccepted (Unelf file image) bytes trace text status = (status ≡ Memory) ⊎ (status ≡ Done)
+IsOfAccepted (Audit file harts cycles) source trace text status =
     (status ≡ Memory) ⊎ IsOfRun source text harts cycles status
-IsOfAccepted (Trace file harts cycles) source text status =
+IsOfAccepted (Trace file harts cycles) source trace text status =
     (status ≡ Memory) ⊎ IsOfRun source text harts cycles status
-IsOfAccepted (Selftest statements) source text status =
-    (status ≡ Memory) ⊎ IsOfRun source [] 64 4294967295 status
-IsOfAccepted Locks bytes text status = (status ≡ Memory) ⊎ (status ≡ Done)
+IsOfAccepted (Replay file name) source trace text status =
+    (status ≡ Memory) ⊎ IsOfReplay source trace text status
+IsOfAccepted (Selftest statements) source trace text status =
+    (status ≡ Memory) ⊎ IsOfRun source [] test_harts test_cycles status
+IsOfAccepted Locks bytes trace text status = (status ≡ Memory) ⊎ (status ≡ Done)
 
 -- The statuses where what is read isn't in order.
 abbrev pub IsOfUnreadable : Command → Status → Type 0
@@ -378,8 +423,13 @@ IsOfUnreadable (Elf image file) status = (status ≡ Memory) ⊎ (status ≡ Ima
 IsOfUnreadable (Unelf file image) status = (status ≡ Memory) ⊎ (status ≡ ElfRefused)
 IsOfUnreadable (Audit file harts cycles) status = (status ≡ Memory) ⊎ (status ≡ Refused)
 IsOfUnreadable (Trace file harts cycles) status = (status ≡ Memory) ⊎ (status ≡ Refused)
+IsOfUnreadable (Replay file trace) status = (status ≡ Memory) ⊎ (status ≡ Refused)
 IsOfUnreadable (Selftest statements) status = (status ≡ Memory) ⊎ (status ≡ Refused)
 IsOfUnreadable Locks status = status ≡ Memory
+
+-- The statuses where the file is in order and the trace isn't.
+abbrev pub IsOfUntraced : Status → Type 0
+IsOfUntraced status = (status ≡ Memory) ⊎ (status ≡ TraceRefused)
 
 -- The statuses where what is read is in order and the input isn't.
 abbrev pub IsOfUnaccepted : Status → Type 0
@@ -400,6 +450,8 @@ pub record IsAnswer (call : Call) (status : Status) : Type 0 where
   pub absent : IsAbsent call.request → IsOfAbsent status
   pub write_fault : status ≡ WriteFault → FailsToWrite call
   pub told : TellsFaults call status
+  -- A trace is refused by `replay` alone.
+  pub traced : status ≡ TraceRefused → IsReplay call.request.words
   -- Only a command that runs something faults, and no image of a text traps.
   pub source_fault : status ≡ SourceFault → IsRun call.request.words
   pub trap : status ≡ Trap → IsExec call.request.words
@@ -408,16 +460,21 @@ pub record IsAnswer (call : Call) (status : Status) : Type 0 where
   pub input : status ≡ InputRefused → HasInput call.request.words
   pub left : ¬ HasInput call.request.words → IsSame call.request.input.left
   pub input_faults : ¬ HasInput call.request.words → IsSame call.request.input.faults
-  -- What is in order is not refused, and what isn't in order is refused, the file before the input.
-  pub complete : (command : Command) (bytes text : List ℕ) → IsInOrder call command bytes text
-      → IsReadable command bytes
-      → IsAccepted command bytes text → IsOfAccepted command bytes text status
-  pub refused : (command : Command) (bytes text : List ℕ) → IsInOrder call command bytes text
-      → ¬ IsReadable command bytes
+  -- What is in order is not refused, and what isn't in order is refused: the file before the trace,
+  -- and that before the input.
+  pub complete : (command : Command) (bytes trace text : List ℕ)
+      → IsInOrder call command bytes trace text → IsReadable command bytes
+      → IsTraced command trace → IsAccepted command bytes text
+      → IsOfAccepted command bytes trace text status
+  pub refused : (command : Command) (bytes trace text : List ℕ)
+      → IsInOrder call command bytes trace text → ¬ IsReadable command bytes
       → IsOfUnreadable command status
-  pub input_refused : (command : Command) (bytes text : List ℕ) → IsInOrder call command bytes text
-      → IsReadable command bytes
-      → ¬ IsAccepted command bytes text → IsOfUnaccepted status
+  pub trace_refused : (command : Command) (bytes trace text : List ℕ)
+      → IsInOrder call command bytes trace text → IsReadable command bytes
+      → ¬ IsTraced command trace → IsOfUntraced status
+  pub input_refused : (command : Command) (bytes trace text : List ℕ)
+      → IsInOrder call command bytes trace text → IsReadable command bytes
+      → IsTraced command trace → ¬ IsAccepted command bytes text → IsOfUnaccepted status
   -- Only a command that puts a file changes the store.
   pub files : ¬ IsPut call.request.words → IsSame call.store.files
   pub put_faults : ¬ IsPut call.request.words → IsSame call.store.faults

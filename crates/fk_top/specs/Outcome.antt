@@ -12,7 +12,7 @@ use Rattle.fk_top_input.specs.Input.{input_of}
 use Rattle.fk_locks.specs.Text.{lock_bytes}
 use Rattle.fk_top_words.specs.Arguments.{Text}
 use Rattle.fk_top_words.specs.Command.{Command, Run, Build, Exec, ListCode, Elf}
-use Rattle.fk_top_words.specs.Command.{Unelf, Audit, Trace, Selftest, Locks}
+use Rattle.fk_top_words.specs.Command.{Unelf, Audit, Trace, Replay, Selftest, Locks}
 use Rattle.fk_machine.specs.declared.stand.Stand.{Stand}
 use Rattle.fk_machine.specs.declared.stand.Stand.TheVariants.{Running, Finished, Faulted, Trapped}
 use Rattle.fk_machine.specs.Cycle.{Machine, machine_opening}
@@ -21,20 +21,34 @@ use Rattle.fk_audit.specs.declared.access.AccessKind.TheVariants.{Read, Write}
 use Rattle.fk_audit.specs.declared.verdict.Verdict.{Verdict}
 use Rattle.fk_audit.specs.Clash.{IsFirstOf}
 use Rattle.fk_trace.specs.Early.{trace_of}
+use Rattle.fk_replay_text.specs.declared.fault.ReplayFault.{ReplayFault}
+use Rattle.fk_replay_text.specs.Lines.{IsBadLine}
+use Rattle.fk_replay_text.specs.Rounds.{schedule_of}
+use Rattle.fk_replay_text.specs.Trace.{IsTrace, IsTraceText, Told, moments_of}
+use Rattle.fk_replay.specs.declared.end.End.{End}
+use Rattle.fk_replay.specs.declared.end.End.TheVariants as ends
+use Rattle.fk_replay.specs.declared.end.Replayed.{Replayed}
+use Rattle.fk_replay_source.specs.Answer.{IsAnswerFor, sites_by}
+use Rattle.fk_layout.specs.Layout.{tables_by}
+use Rattle.fk_layout.specs.Refusal.{Fits}
+use Rattle.fk_syntax.specs.declared.facts.Facts.{Facts}
+use Rattle.fk_syntax.specs.Program.{ProgramTree}
 use Rattle.fk_layout_globals.specs.Rows.{Row}
-use Rattle.fk_compile_text.specs.Text.{HasGlobal}
-use Rattle.fk_compile.specs.Faithful.{IsFaithful}
+use Rattle.fk_compile_text.specs.Text.{IsChecked, HasGlobal}
+use Rattle.fk_compile.specs.Faithful.{IsFaithful, words_by}
 use Rattle.fk_compile.specs.Events.{TellsEvents}
 use Rattle.fk_top.specs.declared.kinds.FaultKind.TheVariants as fault
 use Rattle.fk_top.specs.declared.report.Report.{Report}
+use Rattle.fk_top.specs.declared.reason.Reason.TheVariants as reasons
 use Rattle.fk_top.specs.declared.report.Report.TheVariants as reports
 use Rattle.fk_top.specs.declared.status.Status.{Status}
 use Rattle.fk_top.specs.declared.status.Status.TheVariants.{Done, Refused, SourceFault, CycleBound}
 use Rattle.fk_top.specs.declared.status.Status.TheVariants.{Trap, ImageRefused, InputRefused}
-use Rattle.fk_top.specs.declared.status.Status.TheVariants.{ElfRefused}
+use Rattle.fk_top.specs.declared.status.Status.TheVariants.{TraceRefused, ElfRefused}
 use Rattle.fk_top.specs.Report.{fault_kind, trap_kind, line_of, no_global_line, show_line}
 use Rattle.fk_top.specs.Report.{verdict_text}
 use Rattle.fk_top.specs.Refused.{IsNoElfAs, IsNoImageAs, IsRefusedBy, input_report_of}
+use Rattle.fk_top.specs.Refused.{trace_report_of}
 
 -- A file that is put: its name and its bytes.
 pub record Put : Type 0 where
@@ -204,17 +218,21 @@ IsShown source _ _ = ⊥
 abbrev pub most_numbers : ℕ → ℕ
 most_numbers globals = min 65536 (most_data_words - globals)
 
+-- The input text is refused beside this many globals, and so is the call.
+pub record RefusesInputBeside (globals : ℕ) (text : List ℕ) (outcome : Outcome) : Type 0 where
+  pub fault : InputFault
+  pub refused : input_of (most_numbers globals) text ≡ Err fault
+  pub report : Report
+  pub says : input_report_of fault ≡ Some report
+  pub is : outcome ≡ silent InputRefused (line_of report)
+
 -- The numbers that an input text gives to the machine of an image, or why it is refused.
 abbrev pub numbers_for : Image → List ℕ → Result (List ℕ) InputFault
 numbers_for image text = input_of (most_numbers (vec_len image.globals)) text
 
 -- The input text is refused for an image, and so is the call.
-pub record RefusesInput (image : Image) (text : List ℕ) (outcome : Outcome) : Type 0 where
-  pub fault : InputFault
-  pub refused : numbers_for image text ≡ Err fault
-  pub report : Report
-  pub says : input_report_of fault ≡ Some report
-  pub is : outcome ≡ silent InputRefused (line_of report)
+abbrev pub RefusesInput : Image → List ℕ → Outcome → Type 0
+RefusesInput image text outcome = RefusesInputBeside (vec_len image.globals) text outcome
 
 -- The machine of an image ran on the numbers of the text, and this was written of the run.
 pub record RunsOn (image : Image) (text : List ℕ) (harts cycles : ℕ) (writing : Writing)
@@ -266,10 +284,12 @@ pub record AuditsSource (source text : List ℕ) (harts cycles : ℕ) (outcome :
   pub compiled : IsFaithful source image
   pub ends : EndsAudit image text harts cycles outcome
 
--- The bytes of an image of the source are put under a name.
+-- The bytes of an image of the source, which tells the events of the source's operations, are put
+-- under a name.
 pub record PutsImage (source name : List ℕ) (outcome : Outcome) : Type 0 where
   pub image : Image
   pub compiled : IsFaithful source image
+  pub events : TellsEvents source image
   pub bytes : List ℕ
   pub spelled : IsImageOf bytes image
   pub is : outcome ≡ built name bytes image
@@ -302,31 +322,117 @@ pub record PutsFromElf (file name : List ℕ) (outcome : Outcome) : Type 0 where
   pub spelled : IsImageOf bytes image
   pub is : outcome ≡ wrote name bytes
 
+-- ---- a replay
+
+-- The status and the report for how a program ends under a trace of so many cycles.
+abbrev pub replay_status : End → Status
+replay_status ends.Finished = Done
+replay_status ends.Running = CycleBound
+replay_status (ends.Faulted site processor) = SourceFault
+
+abbrev pub replay_report : List (ℕ × ℕ × ℕ) → End → ℕ → Report
+replay_report sites ends.Finished cycles = reports.Finished cycles
+replay_report sites ends.Running cycles = reports.Stopped cycles
+replay_report sites (ends.Faulted site processor) cycles =
+    fault_report (slice_get sites site) processor cycles
+
+-- The outcome where a trace is accepted.
+abbrev pub replayed : List (ℕ × ℕ × ℕ) → Replayed → ℕ → Outcome
+replayed sites run cycles =
+    record {
+      status = replay_status run.end;
+      put = None;
+      output = run.output.items;
+      line = line_of (replay_report sites run.end cycles);
+    }
+
+-- The outcome for the answer of a replay. Want of memory has none.
+abbrev pub answered : List (ℕ × ℕ × ℕ) → Result Replayed ReplayFault → ℕ → Option Outcome
+answered sites (Ok run) cycles = Some (replayed sites run cycles)
+answered sites (Err fault) cycles =
+    option_map (λ report. silent TraceRefused (line_of report)) (trace_report_of fault)
+
+-- The bytes are no trace text, and the call is refused for the first line with which none goes on.
+pub record RefusesTrace (bytes : List ℕ) (outcome : Outcome) : Type 0 where
+  pub line : ℕ
+  pub bad : IsBadLine IsTraceText line bytes
+  pub is : outcome ≡ silent TraceRefused (line_of (reports.Refused (reasons.BadTrace line)))
+
+-- The program was run on the numbers of the text under the rounds of a trace. What is written is
+-- the answer: the run's output and status, or the first round that isn't possible or is late.
+pub record AnswersOn (program : ProgramTree) (facts : Facts) (text : List ℕ)
+    (harts cycles : ℕ) (lines : List Told) (outcome : Outcome) : Type 0 where
+  pub input : List ℕ
+  pub numbers : input_of (most_numbers (length (words_by program facts))) text ≡ Ok input
+  pub answer : Result Replayed ReplayFault
+  pub is_answer : IsAnswerFor program facts input harts
+      (schedule_of harts (moments_of lines) cycles) answer
+  pub is : answered (sites_by program facts) answer cycles ≡ Some outcome
+
+-- The bytes are a trace, and the input was refused or the program was run.
+pub record ReplaysTrace (program : ProgramTree) (facts : Facts) (bytes text : List ℕ)
+    (outcome : Outcome) : Type 0 where
+  pub harts : ℕ
+  pub cycles : ℕ
+  pub lines : List Told
+  pub told : IsTrace harts cycles lines bytes
+  pub ends : RefusesInputBeside (length (words_by program facts)) text outcome
+      ⊎ AnswersOn program facts text harts cycles lines outcome
+
+-- The outcome for a program, the bytes of a trace and an input text.
+abbrev pub EndsReplay : ProgramTree → Facts → (bytes text : List ℕ) → Outcome → Type 0
+EndsReplay program facts bytes text outcome =
+    RefusesTrace bytes outcome ⊎ ReplaysTrace program facts bytes text outcome
+
+-- The program of the source was run under the schedule of a trace, or the trace or the input was
+-- refused.
+pub record ReplaysSource (source bytes text : List ℕ) (outcome : Outcome) : Type 0 where
+  pub short : length source ≤ most_text_bytes
+  pub program : ProgramTree
+  pub facts : Facts
+  pub checked : IsChecked source program facts
+  pub fits : Fits (tables_by program facts) program.items
+  pub ends : EndsReplay program facts bytes text outcome
+
 -- The text of the fair lock is given.
 abbrev pub gave_lock : Outcome
 gave_lock =
     record { status = Done; put = None; output = lock_bytes; line = line_of (reports.Wrote 205) }
 
--- The outcome of a command, for the bytes that it read and those of the input. A generated text is
--- run by 64 harts, without input numbers and for at most 2^32 - 1 cycles, and `c` is shown.
-abbrev pub ComesTo : Command → List ℕ → List ℕ → Outcome → Type 0
-ComesTo (Run file harts cycles show) source text outcome =
+-- A generated text is run by so many harts and for at most so many cycles, and this variable is
+-- shown.
+abbrev pub test_harts : ℕ
+test_harts = 64
+
+abbrev pub test_cycles : ℕ
+test_cycles = 4294967295
+
+abbrev pub test_shown : Option Text
+test_shown = Some (codes "c")
+
+-- The outcome of a command, for the bytes of its file, those of the trace that it reads beside it,
+-- and those of the input. A generated text is
+-- run without input numbers.
+abbrev pub ComesTo : Command → (bytes trace text : List ℕ) → Outcome → Type 0
+ComesTo (Run file harts cycles show) source trace text outcome =
     RefusesSource source outcome ⊎ LacksGlobal source show outcome
     ⊎ RunsSource source text harts cycles show outcome
-ComesTo (Build file image) source text outcome = RefusesSource source outcome
+ComesTo (Build file image) source trace text outcome = RefusesSource source outcome
     ⊎ PutsImage source image outcome
-ComesTo (Exec image harts cycles) bytes text outcome = RefusesImage bytes outcome
+ComesTo (Exec image harts cycles) bytes trace text outcome = RefusesImage bytes outcome
     ⊎ RunsImage bytes text harts cycles outcome
-ComesTo (ListCode image) bytes text outcome = RefusesImage bytes outcome ⊎ ListsImage bytes outcome
-ComesTo (Elf image file) bytes text outcome = RefusesImage bytes outcome
+ComesTo (ListCode image) bytes trace text outcome = RefusesImage bytes outcome ⊎ ListsImage bytes outcome
+ComesTo (Elf image file) bytes trace text outcome = RefusesImage bytes outcome
     ⊎ PutsElf bytes file outcome
-ComesTo (Unelf file image) bytes text outcome = RefusesElf bytes outcome
+ComesTo (Unelf file image) bytes trace text outcome = RefusesElf bytes outcome
     ⊎ PutsFromElf bytes image outcome
-ComesTo (Audit file harts cycles) source text outcome = RefusesSource source outcome
+ComesTo (Audit file harts cycles) source trace text outcome = RefusesSource source outcome
     ⊎ AuditsSource source text harts cycles outcome
-ComesTo (Trace file harts cycles) source text outcome = RefusesSource source outcome
+ComesTo (Trace file harts cycles) source trace text outcome = RefusesSource source outcome
     ⊎ TracesSource source text harts cycles outcome
-ComesTo (Selftest statements) source text outcome =
-    RefusesSource source outcome ⊎ LacksGlobal source (Some (codes "c")) outcome
-    ⊎ RunsSource source [] 64 4294967295 (Some (codes "c")) outcome
-ComesTo Locks bytes text outcome = outcome ≡ gave_lock
+ComesTo (Replay file name) source trace text outcome = RefusesSource source outcome
+    ⊎ ReplaysSource source trace text outcome
+ComesTo (Selftest statements) source trace text outcome =
+    RefusesSource source outcome ⊎ LacksGlobal source test_shown outcome
+    ⊎ RunsSource source [] test_harts test_cycles test_shown outcome
+ComesTo Locks bytes trace text outcome = outcome ≡ gave_lock

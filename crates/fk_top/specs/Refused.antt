@@ -8,6 +8,8 @@ use Rattle.fk_elf.specs.declared.fault.ElfFault.TheVariants as elf
 use Rattle.fk_elf.specs.Refusals as files
 use Rattle.fk_top_input.specs.declared.fault.InputFault.{InputFault}
 use Rattle.fk_top_input.specs.declared.fault.InputFault.TheVariants as input
+use Rattle.fk_replay_text.specs.declared.fault.ReplayFault.{ReplayFault}
+use Rattle.fk_replay_text.specs.declared.fault.ReplayFault.TheVariants as trace
 use Rattle.fk_compile_text.specs.declared.refusal.Refusal.{Refusal}
 use Rattle.fk_compile_text.specs.declared.refusal.Refusal.TheVariants as refusal
 use Rattle.fk_compile_text.specs.Refusal as sources
@@ -62,6 +64,13 @@ input_report_of (input.NotANumber word) = Some (Refused (reasons.NotANumber word
 input_report_of (input.OutOfRange word) = Some (Refused (reasons.OutOfRange word))
 input_report_of (input.TooMany word) = Some (Refused (reasons.TooMany word))
 input_report_of input.Memory = None
+
+-- The report of why a trace is refused. `Memory` has none.
+abbrev pub trace_report_of : ReplayFault → Option Report
+trace_report_of (trace.BadTrace line) = Some (Refused (reasons.BadTrace line))
+trace_report_of (trace.NotPossible round) = Some (Refused (reasons.NotPossible round))
+trace_report_of (trace.Pace round processor) = Some (Refused (reasons.Pace round processor))
+trace_report_of trace.Memory = None
 
 -- The source is refused, and the line says why.
 pub record IsRefusedBy (source : List ℕ) (line : List ℕ) : Type 0 where

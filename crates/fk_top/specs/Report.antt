@@ -81,6 +81,10 @@ reason_text (reasons.BadWord word) = codes "refused 18 BadWord " ++ decimal word
 reason_text (reasons.NotANumber word) = codes "refused 19 NotANumber " ++ decimal word
 reason_text (reasons.OutOfRange word) = codes "refused 20 OutOfRange " ++ decimal word
 reason_text (reasons.TooMany word) = codes "refused 21 TooMany " ++ decimal word
+reason_text (reasons.BadTrace line) = codes "refused 24 BadTrace " ++ decimal line
+reason_text (reasons.NotPossible round) = codes "refused 25 NotPossible " ++ decimal round
+reason_text (reasons.Pace round processor) =
+    codes "refused 26 Pace " ++ decimal round ++ codes " " ++ decimal processor
 reason_text (reasons.ElfHeader offset) = codes "refused 27 ElfHeader " ++ decimal offset
 reason_text (reasons.ElfShort bytes wanted) =
     codes "refused 28 ElfShort " ++ decimal bytes ++ codes " " ++ decimal wanted

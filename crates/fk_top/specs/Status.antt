@@ -4,7 +4,7 @@ use Rattle.fk_top.specs.declared.status.Status.{Status}
 use Rattle.fk_top.specs.declared.status.Status.TheVariants.{Done, Refused, Usage, ReadFault}
 use Rattle.fk_top.specs.declared.status.Status.TheVariants.{WriteFault, Memory, SourceFault}
 use Rattle.fk_top.specs.declared.status.Status.TheVariants.{CycleBound, Trap, ImageRefused}
-use Rattle.fk_top.specs.declared.status.Status.TheVariants.{InputRefused, ElfRefused}
+use Rattle.fk_top.specs.declared.status.Status.TheVariants.{InputRefused, TraceRefused, ElfRefused}
 
 abbrev pub code_of : Status → ℕ
 code_of Done = 0
@@ -18,4 +18,5 @@ code_of CycleBound = 7
 code_of Trap = 8
 code_of ImageRefused = 9
 code_of InputRefused = 10
+code_of TraceRefused = 11
 code_of ElfRefused = 12

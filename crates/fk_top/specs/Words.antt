@@ -1,19 +1,21 @@
 -- What the commands read, and which of them run something, take an input, put a file or run an
 -- image.
-use Rattle.std.specs.Prelude.{◌+◌, ℕ, List}
+use Rattle.std.specs.Prelude.{◌+◌, ◌^◌, ℕ, List}
 use Rattle.fk_num.specs.Limits.{most_text_bytes}
 use Rattle.fk_top_words.specs.Arguments.{Text}
 use Rattle.fk_top_words.specs.Command.{Command, Run, Build, Exec, ListCode, Elf}
-use Rattle.fk_top_words.specs.Command.{Unelf, Audit, Trace, Selftest, Locks, Reads}
+use Rattle.fk_top_words.specs.Command.{Unelf, Audit, Trace, Replay, Selftest, Locks, Reads}
 use Rattle.fk_top.specs.declared.command.OriginWords.{OriginWords}
 use Rattle.fk_top.specs.declared.command.OriginWords.TheVariants as words
 
--- The command runs an image: that of a source or of a generated text, or one given by its bytes.
+-- The command runs an image, that of a source or of a generated text or one given by its bytes, or
+-- a source's program under the schedule of a trace.
 abbrev pub Runs : Command → Type 0
 Runs (Run file harts cycles show) = Unit {0}
 Runs (Exec image harts cycles) = Unit {0}
 Runs (Audit file harts cycles) = Unit {0}
 Runs (Trace file harts cycles) = Unit {0}
+Runs (Replay file trace) = Unit {0}
 Runs (Selftest statements) = Unit {0}
 Runs command = ⊥
 
@@ -27,6 +29,7 @@ TakesInput (Run file harts cycles show) = Unit {0}
 TakesInput (Exec image harts cycles) = Unit {0}
 TakesInput (Audit file harts cycles) = Unit {0}
 TakesInput (Trace file harts cycles) = Unit {0}
+TakesInput (Replay file trace) = Unit {0}
 TakesInput command = ⊥
 
 -- The words are a command that takes an input.
@@ -48,6 +51,10 @@ IsPut words = (command : Command) × Reads words command × Puts command
 abbrev pub IsExec : List Text → Type 0
 IsExec words = (image : Text) × (harts : ℕ) × (cycles : ℕ) × Reads words (Exec image harts cycles)
 
+-- The words are a command that replays a trace.
+abbrev pub IsReplay : List Text → Type 0
+IsReplay words = (file : Text) × (trace : Text) × Reads words (Replay file trace)
+
 -- Where the bytes that a command reads come from: the first ones of a file, at most so many, or the
 -- generated text with so many statements. A command from nowhere reads nothing.
 pub data Origin : Type 0 where
@@ -66,8 +73,18 @@ origin_of (Elf image file) = FirstOf image 5434905
 origin_of (Unelf file image) = FirstOf file 5435037
 origin_of (Audit file harts cycles) = FirstOf file (most_text_bytes + 1)
 origin_of (Trace file harts cycles) = FirstOf file (most_text_bytes + 1)
+origin_of (Replay file trace) = FirstOf file (most_text_bytes + 1)
 origin_of (Selftest statements) = Generated statements
 origin_of Locks = Nowhere
+
+-- The most bytes that are fetched of a trace. No trace of a run has so many.
+abbrev pub most_trace_bytes : ℕ
+most_trace_bytes = 2 ^ 47
+
+-- Where the trace comes from that a command reads beside its file.
+abbrev pub trace_origin_of : Command → Origin
+trace_origin_of (Replay file trace) = FirstOf trace most_trace_bytes
+trace_origin_of command = Nowhere
 
 abbrev pub origin_from : OriginWords → Origin
 origin_from (words.File file most) = FirstOf file.now most
@@ -93,5 +110,6 @@ most_input (Elf image file) = 0
 most_input (Unelf file image) = 0
 most_input (Audit file harts cycles) = most_text_bytes + 1
 most_input (Trace file harts cycles) = most_text_bytes + 1
+most_input (Replay file trace) = most_text_bytes + 1
 most_input (Selftest statements) = 0
 most_input Locks = 0

@@ -25,14 +25,15 @@ use std::alloc::{AllocError, Global};
 ///
 /// The commands are `run FILE --harts P --cycles N [--show NAME]`, `build FILE -o IMAGE`, `exec
 /// IMAGE --harts P --cycles N`, `list IMAGE`, `elf IMAGE -o FILE`, `unelf FILE -o IMAGE`, `selftest
-/// N`, `locks`, and with the words of `run` but without `--show` `audit` and `trace`. Those that run
-/// a file take the input numbers from `input`, once the file is read; `selftest` and `locks` read
-/// neither a file nor an input.
+/// N`, `locks`, `replay FILE TRACE`, and with the words of `run` but without `--show` `audit` and
+/// `trace`. Those that run a file take the input numbers from `input`, once the file is read;
+/// `replay` reads the trace before it; `selftest` and `locks` read neither a file nor an input.
 ///
 /// A file is put before anything is given. What a cycle prints, or its lines in a trace, is given
-/// after that cycle; an audit is given when the run has ended. The line of the variable that is
-/// shown follows when the run has ended. The report is the last line that `err` gets. Once a run
-/// has begun, the call takes no memory.
+/// after that cycle; an audit is given when the run has ended, and so is what is printed under a
+/// trace, if the trace is accepted. The line of the variable that is shown follows when the run has
+/// ended. The report is the last line that `err` gets. Once the run of a machine has begun, the call
+/// takes no memory.
 ///
 /// `IsAnswer` says, fact by fact, what holds of the words, the status, and what the store and the
 /// sinks have before the call and after it.

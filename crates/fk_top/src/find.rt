@@ -11,12 +11,12 @@ ghost use Rattle.fk_top.specs.Ending.{outcome_of};
 ghost use Rattle.fk_top.specs.Call.{Ends, given_of, request_of};
 
 use crate::bytes::{list_bytes, run_bytes};
-use crate::command::origin_of;
 use crate::elf::{put_elf, put_image};
 use crate::ending::{Ending, silent};
 use crate::input::take_input;
 use crate::lock::give_lock;
-use crate::reading::read_bytes;
+use crate::reading::{ReadBytes, read_files};
+use crate::replay::replay_source;
 use crate::report::Report;
 use crate::source::{audit_source, build_source, run_source, test_source, trace_source};
 use crate::status::Status;
@@ -25,7 +25,7 @@ use fk_top_words::{CommandWords, WordsFault, read_words};
 use std::alloc::{AllocError, Global};
 
 /// The ending of a call with these words, for a store and an input. It changes nothing in the
-/// store, runs nothing but an audit, and gives nothing to any sink. A file or an input that could
+/// store, runs nothing but an audit and a replay, and gives nothing to any sink. A file or an input that could
 /// not be read is an ending too. It fails only if there isn't enough memory.
 pub fn find_ending<'a, F: Store, S: Source>(
     alloc: Global,
@@ -56,12 +56,12 @@ pub fn find_ending<'a, F: Store, S: Source>(
         Ok(command) => command,
         Err(fault) => return no_command(alloc, fault),
     };
-    let bytes = match read_bytes(alloc, origin_of(command), files) {
-        Ok(bytes) => bytes,
+    let read = match read_files(alloc, command, files) {
+        Ok(read) => read,
         Err(fault) => return unread(alloc, fault),
     };
     match take_input(alloc, command, input) {
-        Ok(text) => command_ending(alloc, command, bytes.as_slice(), text.as_slice()),
+        Ok(text) => command_ending(alloc, command, &read, text.as_slice()),
         Err(fault) => unread(alloc, fault),
     }
 }
@@ -94,12 +94,13 @@ fn unread<'a>(alloc: Global, fault: StoreFault) -> Result<Ending<'a>, AllocError
 fn command_ending<'a>(
     alloc: Global,
     command: CommandWords<'a>,
-    bytes: &[u8],
+    read: &ReadBytes,
     text: &[u8],
 ) -> Result<Ending<'a>, AllocError>
-    ensures { IfOk result
-        (λ e. ComesTo (command_of command.entry) bytes.now text.now (outcome_of e)) }
+    ensures { IfOk result (λ e. ComesTo (command_of command.entry) read.now.file.items
+        read.now.trace.items text.now (outcome_of e)) }
 {
+    let bytes = read.file.as_slice();
     match command {
         CommandWords::Run(_, run, show) => run_source(alloc, bytes, text, run, show),
         CommandWords::Build(_, image) => build_source(alloc, bytes, image),
@@ -109,6 +110,7 @@ fn command_ending<'a>(
         CommandWords::Unelf(_, image) => put_image(alloc, bytes, image),
         CommandWords::Audit(_, run) => audit_source(alloc, bytes, text, run),
         CommandWords::Trace(_, run) => trace_source(alloc, bytes, text, run),
+        CommandWords::Replay(_, _) => replay_source(alloc, bytes, read.trace.as_slice(), text),
         CommandWords::Selftest(_) => test_source(alloc, bytes),
         CommandWords::Locks => give_lock(alloc),
     }

@@ -53,6 +53,12 @@ pub enum Reason {
     OutOfRange(u32),
     /// This word of the input is one too many; or, as 0, the input text is too long.
     TooMany(u32),
+    /// No trace text goes on with this line.
+    BadTrace(u64),
+    /// This round of the trace isn't possible.
+    NotPossible(u32),
+    /// In the 256 rounds up to this one this processor could act, and is in none of them.
+    Pace(u32, u32),
     /// This byte of the ELF file isn't that of the headers which its own sizes demand.
     ElfHeader(u32),
     /// The ELF file has this many bytes, fewer than it needs, which is the second number.
@@ -85,15 +91,20 @@ impl Reason {
             Reason::SourceTooLong(bytes) => numbered(b"refused 12 SourceTooLong ", bytes),
             Reason::Magic => plain(b"refused 13 Magic"),
             Reason::Version(version) => numbered(b"refused 14 Version ", u64::from(version)),
-            Reason::Short(bytes, wanted) => short_text(b"refused 15 Short ", bytes, wanted),
+            Reason::Short(bytes, wanted) => paired(b"refused 15 Short ", bytes, wanted),
             Reason::LongTail(wanted) => numbered(b"refused 16 LongTail ", wanted),
             Reason::BadTable(entry) => numbered(b"refused 17 BadTable ", u64::from(entry)),
             Reason::BadWord(word) => numbered(b"refused 18 BadWord ", u64::from(word)),
             Reason::NotANumber(word) => numbered(b"refused 19 NotANumber ", u64::from(word)),
             Reason::OutOfRange(word) => numbered(b"refused 20 OutOfRange ", u64::from(word)),
             Reason::TooMany(word) => numbered(b"refused 21 TooMany ", u64::from(word)),
+            Reason::BadTrace(line) => numbered(b"refused 24 BadTrace ", line),
+            Reason::NotPossible(round) => numbered(b"refused 25 NotPossible ", u64::from(round)),
+            Reason::Pace(round, processor) => {
+                paired(b"refused 26 Pace ", u64::from(round), u64::from(processor))
+            }
             Reason::ElfHeader(offset) => numbered(b"refused 27 ElfHeader ", u64::from(offset)),
-            Reason::ElfShort(bytes, wanted) => short_text(b"refused 28 ElfShort ", bytes, wanted),
+            Reason::ElfShort(bytes, wanted) => paired(b"refused 28 ElfShort ", bytes, wanted),
             Reason::ElfTail(wanted) => numbered(b"refused 29 ElfTail ", wanted),
             Reason::ElfSizes => plain(b"refused 30 ElfSizes"),
             Reason::ElfTable(entry) => numbered(b"refused 31 ElfTable ", u64::from(entry)),
@@ -112,14 +123,14 @@ fn rule_text(place: Place, number: u8) -> Line
     line
 }
 
-// A text followed by the bytes that a file has, and those that it needs, which are more.
-fn short_text(before: &[u8], bytes: u64, wanted: u64) -> Line
+// A text followed by two numbers.
+fn paired(before: &[u8], first: u64, second: u64) -> Line
     requires { length before.now ≤ 30 }
-    ensures text { result.items ≡ before.now ++ decimal bytes ++ codes " " ++ decimal wanted }
+    ensures text { result.items ≡ before.now ++ decimal first ++ codes " " ++ decimal second }
     ensures short { array_vec_len result ≤ 71 }
 {
-    let mut line = numbered(before, bytes);
+    let mut line = numbered(before, first);
     append(&mut line, b" ");
-    append_number(&mut line, wanted);
+    append_number(&mut line, second);
     line
 }

@@ -4,7 +4,7 @@ ghost use Rattle.std.specs.Prelude.{◌≡◌};
 ghost use Rattle.std.specs.Option.{option_map};
 ghost use Rattle.fk_top.specs.Ending.{last_line};
 ghost use Rattle.fk_top.specs.Refused.{elf_report_of, image_report_of, input_report_of};
-ghost use Rattle.fk_top.specs.Refused.{refusal_line};
+ghost use Rattle.fk_top.specs.Refused.{refusal_line, trace_report_of};
 
 use crate::ending::LastLine;
 use crate::reason::Reason;
@@ -12,6 +12,7 @@ use crate::report::Report;
 use fk_compile_text::Refusal;
 use fk_elf::ElfFault;
 use fk_image::ImageFault;
+use fk_replay_source::ReplayFault;
 use fk_top_input::InputFault;
 
 /// The last line where a source is refused. `Memory` is no refusal, and has no line.
@@ -76,6 +77,19 @@ pub fn input_report_of(fault: InputFault) -> Option<Report>
         InputFault::OutOfRange(word) => Reason::OutOfRange(word),
         InputFault::TooMany(word) => Reason::TooMany(word),
         InputFault::Memory => return None,
+    };
+    Some(Report::Refused(reason))
+}
+
+/// The report of why a trace is refused. `Memory` has none.
+pub fn trace_report_of(fault: ReplayFault) -> Option<Report>
+    ensures { result ≡ trace_report_of fault }
+{
+    let reason = match fault {
+        ReplayFault::BadTrace(line) => Reason::BadTrace(line),
+        ReplayFault::NotPossible(round) => Reason::NotPossible(round),
+        ReplayFault::Pace(round, processor) => Reason::Pace(round, processor),
+        ReplayFault::Memory => return None,
     };
     Some(Report::Refused(reason))
 }

@@ -42,9 +42,9 @@ pub fn stand_report(image: &Image, bound: u32, stand: Stand, cycles: u32) -> Rep
     }
 }
 
-// The report of a fault at a site, given its kind, line and column. If the image has no such site,
-// the place is 0:0.
-fn fault_report(site: Option<(u32, u32, u32)>, processor: u32, cycles: u32) -> Report
+/// The report of a fault at a site, given its kind, line and column. If there is no such site, the
+/// place is 0:0.
+pub fn fault_report(site: Option<(u32, u32, u32)>, processor: u32, cycles: u32) -> Report
     ensures { result ≡ fault_report site processor cycles }
 {
     let (kind, line, column) = site.unwrap_or((0, 0, 0));

@@ -25,6 +25,8 @@ pub enum Status {
     ImageRefused,
     /// The input is refused.
     InputRefused,
+    /// The trace is refused.
+    TraceRefused,
     /// The ELF file is refused.
     ElfRefused,
 }
@@ -33,7 +35,7 @@ impl Status {
     ghost use Rattle.std.specs.Prelude.{◌≡◌};
     ghost use Rattle.fk_top.specs.Status.{code_of};
 
-    /// The exit status: 0 to 10 in the order above, and 12.
+    /// The exit status: 0 to 12 in the order above.
     pub fn code(&self) -> u8
         ensures { result ≡ code_of self.now }
     {
@@ -49,6 +51,7 @@ impl Status {
             Status::Trap => 8,
             Status::ImageRefused => 9,
             Status::InputRefused => 10,
+            Status::TraceRefused => 11,
             Status::ElfRefused => 12,
         }
     }

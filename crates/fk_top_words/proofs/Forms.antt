@@ -91,6 +91,17 @@ pub form : (word : Text) → Form word
 form [] = plain (record { dashed = refl; some = refl; long = refl; short = refl })
 form (x ∷ rest) = first_form x rest (x == 45) refl
 
+-- a word that begins with no hyphen, or is one
+pub plain_word : (word : Text) → is_dashed word ≡ false → IsPlain word
+plain_word word undashed = by (form word)
+  where
+    by : Form word → IsPlain word
+    by (dashes is) = let bad : true ≡ false = rw is at undashed in cc
+    by (long name None is) = let t = is.text in let bad : true ≡ false = rw t at undashed in cc
+    by (long name (Some v) is) = let t = is.text in let bad : true ≡ false = rw t at undashed in cc
+    by (short first rest is) = let t = is.text in let bad : true ≡ false = rw t at undashed in cc
+    by (plain is) = is
+
 -- ---- the first character of a short option
 
 -- the first character of what follows the hyphen

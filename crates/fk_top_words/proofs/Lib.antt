@@ -4,6 +4,7 @@ pub mod Forms
 pub mod Steps
 pub mod Taken
 pub mod Spelled
+pub mod Files
 pub mod Lines
 pub mod Bare
 pub mod Whole

@@ -4,7 +4,7 @@ use Rattle.std.specs.Str.{bytes_eq}
 use Rattle.clap.specs.Walk.{Row}
 use Rattle.fk_top_words.specs.Arguments.{Text}
 use Rattle.fk_top_words.specs.Asked.{AsksFor, AsksOf}
-use Rattle.fk_top_words.specs.Command.{Command, Run, Build, Exec, ListCode, Elf, Unelf, Audit, Trace, Selftest, Locks, OneCommand}
+use Rattle.fk_top_words.specs.Command.{Command, Run, Build, Exec, ListCode, Elf, Unelf, Audit, Trace, Replay, Selftest, Locks, OneCommand}
 use Rattle.fk_top_words.proofs.Whole.{asked, differ}
 
 -- a name is that of one command
@@ -123,6 +123,30 @@ same_asked name rows (Audit file harts cycles) (Selftest statements') asks other
 same_asked name rows (Selftest statements) (Audit file' harts' cycles') asks other = apart name (codes "selftest") (codes "audit") refl asks.0 other.0
 same_asked name rows (Trace file harts cycles) (Selftest statements') asks other = apart name (codes "trace") (codes "selftest") refl asks.0 other.0
 same_asked name rows (Selftest statements) (Trace file' harts' cycles') asks other = apart name (codes "selftest") (codes "trace") refl asks.0 other.0
+same_asked name rows (Replay file trace) (Replay file' trace') asks other =
+    let f : Some file ≡ Some file' = sym asks.1 ∙ other.1 in
+    let t : Some trace ≡ Some trace' = sym asks.2 ∙ other.2 in
+    cc
+same_asked name rows (Run file harts cycles show) (Replay file' trace') asks other = apart name (codes "run") (codes "replay") refl asks.0 other.0
+same_asked name rows (Replay file trace) (Run file' harts' cycles' show') asks other = apart name (codes "replay") (codes "run") refl asks.0 other.0
+same_asked name rows (Build file image) (Replay file' trace') asks other = apart name (codes "build") (codes "replay") refl asks.0 other.0
+same_asked name rows (Replay file trace) (Build file' image') asks other = apart name (codes "replay") (codes "build") refl asks.0 other.0
+same_asked name rows (Exec image harts cycles) (Replay file' trace') asks other = apart name (codes "exec") (codes "replay") refl asks.0 other.0
+same_asked name rows (Replay file trace) (Exec image' harts' cycles') asks other = apart name (codes "replay") (codes "exec") refl asks.0 other.0
+same_asked name rows (ListCode image) (Replay file' trace') asks other = apart name (codes "list") (codes "replay") refl asks.0 other.0
+same_asked name rows (Replay file trace) (ListCode image') asks other = apart name (codes "replay") (codes "list") refl asks.0 other.0
+same_asked name rows (Elf image file) (Replay file' trace') asks other = apart name (codes "elf") (codes "replay") refl asks.0 other.0
+same_asked name rows (Replay file trace) (Elf image' file') asks other = apart name (codes "replay") (codes "elf") refl asks.0 other.0
+same_asked name rows (Unelf file image) (Replay file' trace') asks other = apart name (codes "unelf") (codes "replay") refl asks.0 other.0
+same_asked name rows (Replay file trace) (Unelf file' image') asks other = apart name (codes "replay") (codes "unelf") refl asks.0 other.0
+same_asked name rows (Audit file harts cycles) (Replay file' trace') asks other = apart name (codes "audit") (codes "replay") refl asks.0 other.0
+same_asked name rows (Replay file trace) (Audit file' harts' cycles') asks other = apart name (codes "replay") (codes "audit") refl asks.0 other.0
+same_asked name rows (Trace file harts cycles) (Replay file' trace') asks other = apart name (codes "trace") (codes "replay") refl asks.0 other.0
+same_asked name rows (Replay file trace) (Trace file' harts' cycles') asks other = apart name (codes "replay") (codes "trace") refl asks.0 other.0
+same_asked name rows (Selftest statements) (Replay file' trace') asks other = apart name (codes "selftest") (codes "replay") refl asks.0 other.0
+same_asked name rows (Replay file trace) (Selftest statements') asks other = apart name (codes "replay") (codes "selftest") refl asks.0 other.0
+same_asked name rows Locks (Replay file' trace') asks other = apart name (codes "locks") (codes "replay") refl asks other.0
+same_asked name rows (Replay file trace) Locks asks other = apart name (codes "replay") (codes "locks") refl asks.0 other
 same_asked name rows Locks Locks asks other = refl
 same_asked name rows (Run file harts cycles show) Locks asks other = apart name (codes "run") (codes "locks") refl asks.0 other
 same_asked name rows Locks (Run file' harts' cycles' show') asks other = apart name (codes "locks") (codes "run") refl asks other.0

@@ -5,7 +5,7 @@ use Rattle.std.specs.List.{list_any}
 use Rattle.clap.specs.declared.builder.value_parser.ValueParser.TheVariants as parser
 use Rattle.clap.specs.Walk.{Rule, arg_by_id, arg_by_index, arg_by_long, arg_by_short}
 use Rattle.clap.specs.Simple.{App, Shape, new_shape, built}
-use Rattle.fk_top_words.specs.Written.{id_of, long_of_part, written, run_parts, put_parts, exec_parts, list_parts, written_top, written_app}
+use Rattle.fk_top_words.specs.Written.{id_of, long_of_part, written, run_parts, put_parts, exec_parts, list_parts, trace_rule, written_top, written_app}
 use Rattle.fk_top_words.specs.Arguments.{Text, Part, File, Harts, Cycles, Show, Image, is_part}
 
 abbrev pub index_of : Part → Option ℕ
@@ -33,6 +33,23 @@ command name ps = record (new_shape name) {
   is_built = true;
 }
 
+-- the name of a trace, and the command that reads one, as they are built
+abbrev pub trace : Rule
+trace = record trace_rule {
+  index = Some 2;
+  range = Some (record { start_inclusive = 1; end_inclusive = 1 });
+  parser = Some parser.String;
+}
+
+abbrev pub replay : Shape
+replay = record (new_shape (codes "replay")) {
+  rules = rule File ∷ trace ∷ [];
+  no_binary_name = true;
+  disable_help_flag = true;
+  disable_help_subcommand = true;
+  is_built = true;
+}
+
 abbrev pub app : App
 app = record {
   top = record written_top { is_leaf = false; is_built = true };
@@ -40,7 +57,7 @@ app = record {
       ∷ command (codes "exec") exec_parts ∷ command (codes "list") list_parts
       ∷ command (codes "elf") put_parts ∷ command (codes "unelf") put_parts
       ∷ command (codes "audit") exec_parts ∷ command (codes "trace") exec_parts
-      ∷ command (codes "selftest") list_parts ∷ command (codes "locks") [] ∷ [];
+      ∷ replay ∷ command (codes "selftest") list_parts ∷ command (codes "locks") [] ∷ [];
 }
 
 pub built-written : built written_app ≡ app

@@ -7,7 +7,7 @@ use Rattle.clap.specs.Walk.{Walk, arg_by_long, arg_by_short, attached_value}
 use Rattle.fk_top_words.specs.Arguments.{Text, Part, File, Harts, Cycles, Show, Image, Argument, argument, is_dashed, is_part, option_word, Spells, Nothing, Plain, Apart, Joined, Attached, Ended}
 use Rattle.fk_top_words.proofs.Rules.{IsCommand, is_in, rule, rules}
 use Rattle.fk_top_words.proofs.Given.{IsKnown, IsNew, IsOnce, at, awaiting, end_fine, given, is_part-same, joined, lacks, new-in, rows, rows-end}
-use Rattle.fk_top_words.proofs.Forms.{IsLong, IsPlain, Form, dashes, form, long, o_first, plain, short}
+use Rattle.fk_top_words.proofs.Forms.{IsLong, o_first, plain_word}
 use Rattle.fk_top_words.proofs.Steps.{Turn, turn_apart, turn_behind, turn_dashes, turn_joined, turn_plain, turn_short, turn_short_apart, turn_value}
 use Rattle.fk_top_words.proofs.Taken.{AreIn, ends, goes, rest_fault, rows_at_end}
 
@@ -34,17 +34,6 @@ option_of ps known Show option within names =
     subst (λ o. OptionOf ps Show o) is (by_name (codes "show") (known.by_long Show within)
     (λ word v text. record { text = text; some = rw text refl; long = rw text refl }) (record { text = refl; some = refl; long = refl }))
 option_of ps known Image option within names = let is : codes "-o" ≡ option = cc in by_letter refl (sym is) (known.by_short within)
-
--- a word that begins with no hyphen, or is one
-plain_word : (word : Text) → is_dashed word ≡ false → IsPlain word
-plain_word word undashed = by (form word)
-  where
-    by : Form word → IsPlain word
-    by (dashes is) = let bad : true ≡ false = rw is at undashed in cc
-    by (long name None is) = let t = is.text in let bad : true ≡ false = rw t at undashed in cc
-    by (long name (Some v) is) = let t = is.text in let bad : true ≡ false = rw t at undashed in cc
-    by (short first rest is) = let t = is.text in let bad : true ≡ false = rw t at undashed in cc
-    by (plain is) = is
 
 attached-is : (first : ℕ) (rest : Text) → first ≢ 61 → attached_value (first ∷ rest) ≡ Some (first ∷ rest)
 attached-is first rest other = let e : (first == 61) ≡ false = ne_eqb first 61 other in rw e refl

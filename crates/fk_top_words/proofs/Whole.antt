@@ -14,14 +14,15 @@ use Rattle.std.proofs.lemmas.Str.{IsUtf8-string_bytes}
 use Rattle.clap.specs.Simple.{App, is_simple, subcommand_of}
 use Rattle.fk_top_words.specs.Arguments.{Text, Part, File, Harts, Cycles, Show, Image, Argument, Values, Gives, Spells, all_values, values_of}
 use Rattle.fk_top_words.specs.Asked.{AsksFor, AsksOf, RunsBy, StatementsBy, number_of}
-use Rattle.fk_top_words.specs.Command.{Command, Run, Build, Exec, ListCode, Elf, Unelf, Audit, Trace, Selftest, Locks, Reads, ReadsStatements, ReadsRun, ReadsBehind, once_or_never, only_file, two_files}
+use Rattle.fk_top_words.specs.Command.{Command, Run, Build, Exec, ListCode, Elf, Unelf, Audit, Trace, Replay, Selftest, Locks, Reads, ReadsStatements, ReadsRun, ReadsBehind, once_or_never, only_file, only_files, two_files}
 use Rattle.fk_top_words.specs.Written.{id_of, run_parts, put_parts, exec_parts, list_parts, written_app}
-use Rattle.fk_top_words.proofs.Rules.{IsCommand, exec_command, is_in, list_command, put_command, run_command}
+use Rattle.fk_top_words.proofs.Rules.{IsCommand, exec_command, is_in, list_command, put_command, replay, run_command}
 use Rattle.fk_top_words.proofs.Given.{IsOnce, at, first-rows, given, lacks, no_values, rows, some_values}
 use Rattle.fk_top_words.proofs.Taken.{Adds, AreIn, AreTexts, rows_at_end, sound}
 use Rattle.fk_top_words.proofs.Spelled.{gets}
 use Rattle.fk_top_words.proofs.Bare.{Bare, bare_fine, gives_none, spelled_bare, taken_bare}
-use Rattle.fk_top_words.proofs.Lines.{Behind, Named, is_run, is_build, is_exec, is_list, is_elf, is_unelf, is_audit, is_trace, is_selftest, is_locks, other, named, behind_run, behind_build, behind_exec, behind_list, behind_elf, behind_unelf, behind_audit, behind_trace, behind_selftest, behind_locks, no_words, other_word}
+use Rattle.fk_top_words.proofs.Files.{AreTwo, both, gets_two, gives_files, none, shape_rows, spelled_files, took_two}
+use Rattle.fk_top_words.proofs.Lines.{Behind, Named, is_run, is_build, is_exec, is_list, is_elf, is_unelf, is_audit, is_trace, is_replay, is_selftest, is_locks, other, named, behind_run, behind_build, behind_exec, behind_list, behind_elf, behind_unelf, behind_audit, behind_trace, behind_replay, behind_selftest, behind_locks, no_words, other_word}
 
 pub differ : (a b : Text) → bytes_eq a b ≡ false → a ≡ b → ⊥
 differ a b e same = let t = (bytes_eq-Decides a b).1 same in let bad : true ≡ false = sym t ∙ e in cc
@@ -146,6 +147,7 @@ asked_run words end adds (Elf image file) asks = absurd (differ (codes "run") (c
 asked_run words end adds (Unelf file image) asks = absurd (differ (codes "run") (codes "unelf") refl asks.0)
 asked_run words end adds (Audit file harts cycles) asks = absurd (differ (codes "run") (codes "audit") refl asks.0)
 asked_run words end adds (Trace file harts cycles) asks = absurd (differ (codes "run") (codes "trace") refl asks.0)
+asked_run words end adds (Replay file trace) asks = absurd (differ (codes "run") (codes "replay") refl asks.0)
 asked_run words end adds (Selftest statements) asks = absurd (differ (codes "run") (codes "selftest") refl asks.0)
 asked_run words end adds Locks asks = absurd (differ (codes "run") (codes "locks") refl asks)
 
@@ -158,6 +160,7 @@ asked_build words end adds (Elf image file) asks = absurd (differ (codes "build"
 asked_build words end adds (Unelf file image) asks = absurd (differ (codes "build") (codes "unelf") refl asks.0)
 asked_build words end adds (Audit file harts cycles) asks = absurd (differ (codes "build") (codes "audit") refl asks.0)
 asked_build words end adds (Trace file harts cycles) asks = absurd (differ (codes "build") (codes "trace") refl asks.0)
+asked_build words end adds (Replay file trace) asks = absurd (differ (codes "build") (codes "replay") refl asks.0)
 asked_build words end adds (Selftest statements) asks = absurd (differ (codes "build") (codes "selftest") refl asks.0)
 asked_build words end adds Locks asks = absurd (differ (codes "build") (codes "locks") refl asks)
 
@@ -170,6 +173,7 @@ asked_exec words end adds (Elf image file) asks = absurd (differ (codes "exec") 
 asked_exec words end adds (Unelf file image) asks = absurd (differ (codes "exec") (codes "unelf") refl asks.0)
 asked_exec words end adds (Audit file harts cycles) asks = absurd (differ (codes "exec") (codes "audit") refl asks.0)
 asked_exec words end adds (Trace file harts cycles) asks = absurd (differ (codes "exec") (codes "trace") refl asks.0)
+asked_exec words end adds (Replay file trace) asks = absurd (differ (codes "exec") (codes "replay") refl asks.0)
 asked_exec words end adds (Selftest statements) asks = absurd (differ (codes "exec") (codes "selftest") refl asks.0)
 asked_exec words end adds Locks asks = absurd (differ (codes "exec") (codes "locks") refl asks)
 
@@ -182,6 +186,7 @@ asked_list words end adds (Elf image file) asks = absurd (differ (codes "list") 
 asked_list words end adds (Unelf file image) asks = absurd (differ (codes "list") (codes "unelf") refl asks.0)
 asked_list words end adds (Audit file harts cycles) asks = absurd (differ (codes "list") (codes "audit") refl asks.0)
 asked_list words end adds (Trace file harts cycles) asks = absurd (differ (codes "list") (codes "trace") refl asks.0)
+asked_list words end adds (Replay file trace) asks = absurd (differ (codes "list") (codes "replay") refl asks.0)
 asked_list words end adds (Selftest statements) asks = absurd (differ (codes "list") (codes "selftest") refl asks.0)
 asked_list words end adds Locks asks = absurd (differ (codes "list") (codes "locks") refl asks)
 
@@ -194,6 +199,7 @@ asked_elf words end adds (Elf image file) asks = (refl, reads_put words end adds
 asked_elf words end adds (Unelf file image) asks = absurd (differ (codes "elf") (codes "unelf") refl asks.0)
 asked_elf words end adds (Audit file harts cycles) asks = absurd (differ (codes "elf") (codes "audit") refl asks.0)
 asked_elf words end adds (Trace file harts cycles) asks = absurd (differ (codes "elf") (codes "trace") refl asks.0)
+asked_elf words end adds (Replay file trace) asks = absurd (differ (codes "elf") (codes "replay") refl asks.0)
 asked_elf words end adds (Selftest statements) asks = absurd (differ (codes "elf") (codes "selftest") refl asks.0)
 asked_elf words end adds Locks asks = absurd (differ (codes "elf") (codes "locks") refl asks)
 
@@ -206,6 +212,7 @@ asked_unelf words end adds (Elf image file) asks = absurd (differ (codes "unelf"
 asked_unelf words end adds (Unelf file image) asks = (refl, reads_put words end adds file image asks.1 asks.2)
 asked_unelf words end adds (Audit file harts cycles) asks = absurd (differ (codes "unelf") (codes "audit") refl asks.0)
 asked_unelf words end adds (Trace file harts cycles) asks = absurd (differ (codes "unelf") (codes "trace") refl asks.0)
+asked_unelf words end adds (Replay file trace) asks = absurd (differ (codes "unelf") (codes "replay") refl asks.0)
 asked_unelf words end adds (Selftest statements) asks = absurd (differ (codes "unelf") (codes "selftest") refl asks.0)
 asked_unelf words end adds Locks asks = absurd (differ (codes "unelf") (codes "locks") refl asks)
 
@@ -218,6 +225,7 @@ asked_audit words end adds (Elf image file) asks = absurd (differ (codes "audit"
 asked_audit words end adds (Unelf file image) asks = absurd (differ (codes "audit") (codes "unelf") refl asks.0)
 asked_audit words end adds (Audit file harts cycles) asks = (refl, reads_exec words end adds file harts cycles asks.1 asks.2)
 asked_audit words end adds (Trace file harts cycles) asks = absurd (differ (codes "audit") (codes "trace") refl asks.0)
+asked_audit words end adds (Replay file trace) asks = absurd (differ (codes "audit") (codes "replay") refl asks.0)
 asked_audit words end adds (Selftest statements) asks = absurd (differ (codes "audit") (codes "selftest") refl asks.0)
 asked_audit words end adds Locks asks = absurd (differ (codes "audit") (codes "locks") refl asks)
 
@@ -230,6 +238,7 @@ asked_trace words end adds (Elf image file) asks = absurd (differ (codes "trace"
 asked_trace words end adds (Unelf file image) asks = absurd (differ (codes "trace") (codes "unelf") refl asks.0)
 asked_trace words end adds (Audit file harts cycles) asks = absurd (differ (codes "trace") (codes "audit") refl asks.0)
 asked_trace words end adds (Trace file harts cycles) asks = (refl, reads_exec words end adds file harts cycles asks.1 asks.2)
+asked_trace words end adds (Replay file trace) asks = absurd (differ (codes "trace") (codes "replay") refl asks.0)
 asked_trace words end adds (Selftest statements) asks = absurd (differ (codes "trace") (codes "selftest") refl asks.0)
 asked_trace words end adds Locks asks = absurd (differ (codes "trace") (codes "locks") refl asks)
 
@@ -242,8 +251,27 @@ asked_selftest words end adds (Elf image file) asks = absurd (differ (codes "sel
 asked_selftest words end adds (Unelf file image) asks = absurd (differ (codes "selftest") (codes "unelf") refl asks.0)
 asked_selftest words end adds (Audit file harts cycles) asks = absurd (differ (codes "selftest") (codes "audit") refl asks.0)
 asked_selftest words end adds (Trace file harts cycles) asks = absurd (differ (codes "selftest") (codes "trace") refl asks.0)
+asked_selftest words end adds (Replay file trace) asks = absurd (differ (codes "selftest") (codes "replay") refl asks.0)
 asked_selftest words end adds (Selftest statements) asks = (refl, reads_selftest words end adds statements asks.1)
 asked_selftest words end adds Locks asks = absurd (differ (codes "selftest") (codes "locks") refl asks)
+
+asked_replay : (words : List Text) (end : List Row) (are : AreTwo words) → end ≡ both are.file are.other → (command : Command) → AsksFor (codes "replay") end command → ReadsBehind (codes "replay") words command
+asked_replay words end are is (Run file harts cycles show) asks = absurd (differ (codes "replay") (codes "run") refl asks.0)
+asked_replay words end are is (Build file image) asks = absurd (differ (codes "replay") (codes "build") refl asks.0)
+asked_replay words end are is (Exec image harts cycles) asks = absurd (differ (codes "replay") (codes "exec") refl asks.0)
+asked_replay words end are is (ListCode image) asks = absurd (differ (codes "replay") (codes "list") refl asks.0)
+asked_replay words end are is (Elf image file) asks = absurd (differ (codes "replay") (codes "elf") refl asks.0)
+asked_replay words end are is (Unelf file image) asks = absurd (differ (codes "replay") (codes "unelf") refl asks.0)
+asked_replay words end are is (Audit file harts cycles) asks = absurd (differ (codes "replay") (codes "audit") refl asks.0)
+asked_replay words end are is (Trace file harts cycles) asks = absurd (differ (codes "replay") (codes "trace") refl asks.0)
+asked_replay words end are is (Replay file trace) asks =
+    let f : Some are.file ≡ Some file = ap (first_of (codes "file")) (sym is) ∙ asks.1 in
+    let t : Some are.other ≡ Some trace = ap (first_of (codes "trace")) (sym is) ∙ asks.2 in
+    let same_file : are.file ≡ file = cc in
+    let same_trace : are.other ≡ trace = cc in
+    (refl, subst (λ t. Gives words (only_files (file ∷ t ∷ []))) same_trace (subst (λ f. Gives words (only_files (f ∷ are.other ∷ []))) same_file (gives_files are.are)))
+asked_replay words end are is (Selftest statements) asks = absurd (differ (codes "replay") (codes "selftest") refl asks.0)
+asked_replay words end are is Locks asks = absurd (differ (codes "replay") (codes "locks") refl asks)
 
 asked_locks : (words : List Text) (end : List Row) → Bare words → (command : Command) → AsksFor (codes "locks") end command → ReadsBehind (codes "locks") words command
 asked_locks words end is (Run file harts cycles show) asks = absurd (differ (codes "locks") (codes "run") refl asks.0)
@@ -254,6 +282,7 @@ asked_locks words end is (Elf image file) asks = absurd (differ (codes "locks") 
 asked_locks words end is (Unelf file image) asks = absurd (differ (codes "locks") (codes "unelf") refl asks.0)
 asked_locks words end is (Audit file harts cycles) asks = absurd (differ (codes "locks") (codes "audit") refl asks.0)
 asked_locks words end is (Trace file harts cycles) asks = absurd (differ (codes "locks") (codes "trace") refl asks.0)
+asked_locks words end is (Replay file trace) asks = absurd (differ (codes "locks") (codes "replay") refl asks.0)
 asked_locks words end is (Selftest statements) asks = absurd (differ (codes "locks") (codes "selftest") refl asks.0)
 asked_locks words end is Locks asks = (refl, gives_none words is)
 
@@ -281,6 +310,11 @@ taken_word word words texts (is_audit e) fine =
     subst (λ w. IsTaken (w ∷ words)) (sym e) (taken_named (codes "audit") exec_parts exec_command words (behind_audit words) texts (asked_audit words) (subst (λ w. fault_of written_app (w ∷ words) ≡ []) e fine))
 taken_word word words texts (is_trace e) fine =
     subst (λ w. IsTaken (w ∷ words)) (sym e) (taken_named (codes "trace") exec_parts exec_command words (behind_trace words) texts (asked_trace words) (subst (λ w. fault_of written_app (w ∷ words) ≡ []) e fine))
+taken_word word words texts (is_replay e) fine =
+    let are = took_two words texts (sym (behind_replay words).fault ∙ subst (λ w. fault_of written_app (w ∷ words) ≡ []) e fine) in
+    let got = gets_two are.are are.file are.other refl in
+    subst (λ w. IsTaken (w ∷ words)) (sym e)
+    (record { name = codes "replay"; found = shape_rows replay (none false) words; matches = (behind_replay words).rows_are; reads = asked_replay words (shape_rows replay (none false) words) are got.rows_are })
 taken_word word words texts (is_selftest e) fine =
     subst (λ w. IsTaken (w ∷ words)) (sym e) (taken_named (codes "selftest") list_parts list_command words (behind_selftest words) texts (asked_selftest words) (subst (λ w. fault_of written_app (w ∷ words) ≡ []) e fine))
 taken_word word words texts (is_locks e) fine =
@@ -497,6 +531,17 @@ asked_as word words (Selftest statements) reads =
     (asked_named (codes "selftest") list_parts list_command words (Selftest statements) us (Some r.text) None None None None (behind_selftest words) r.given.spelled each
     (list_in us each.harts each.cycles each.show each.image) (rw gf refl)
     (λ end e. (refl, record { statements_are = ap (option_and_then read_word) (first-is File us (Some r.text) end e each.file) ∙ r.statements_are; some = r.some; few = r.few })))
+asked_as word words (Replay file trace) reads =
+    let b = behind_replay words in
+    let got = gets_two (spelled_files reads.1.spelled (file ∷ trace ∷ []) reads.1.values_are) file trace refl in
+    subst (λ w. IsAsked (w ∷ words) (Replay file trace)) (sym reads.0)
+    (record {
+      fault = b.fault ∙ got.fault;
+      name = codes "replay";
+      found = shape_rows replay (none false) words;
+      matches = b.rows_are;
+      asks = (refl, ap (first_of (codes "file")) got.rows_are, ap (first_of (codes "trace")) got.rows_are);
+    })
 asked_as word words Locks reads =
     let b = behind_locks words in
     subst (λ w. IsAsked (w ∷ words) Locks) (sym reads.0)

@@ -4,7 +4,7 @@ use Rattle.fk_num.specs.Numeral.{read_word}
 use Rattle.clap.specs.Walk.{Row, first_of}
 use Rattle.fk_top_words.specs.Arguments.{Text}
 use Rattle.fk_top_words.specs.Command.{Command, Run, Build, Exec, ListCode, Elf, Unelf}
-use Rattle.fk_top_words.specs.Command.{Audit, Trace, Selftest, Locks}
+use Rattle.fk_top_words.specs.Command.{Audit, Trace, Replay, Selftest, Locks}
 
 -- The number that is found for an argument.
 abbrev pub number_of : Text → List Row → Option ℕ
@@ -44,6 +44,9 @@ AsksFor name rows (Audit file harts cycles) = (name ≡ codes "audit")
     × (first_of (codes "file") rows ≡ Some file) × RunsBy rows harts cycles
 AsksFor name rows (Trace file harts cycles) = (name ≡ codes "trace")
     × (first_of (codes "file") rows ≡ Some file) × RunsBy rows harts cycles
+AsksFor name rows (Replay file trace) =
+    (name ≡ codes "replay") × (first_of (codes "file") rows ≡ Some file)
+    × (first_of (codes "trace") rows ≡ Some trace)
 AsksFor name rows (Selftest statements) = (name ≡ codes "selftest") × StatementsBy rows statements
 AsksFor name rows Locks = name ≡ codes "locks"
 

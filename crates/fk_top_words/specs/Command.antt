@@ -8,8 +8,9 @@ use Rattle.fk_top_words.specs.declared.command.CommandWords.TheVariants as words
 -- The commands: compile a file and run it, and then show a variable, if one is named; compile a
 -- file into an image; run an image; list an image's code; make the ELF file of an image, and the
 -- image of an ELF file; compile a file, run it, and tell which PRAM the run needed; compile a file
--- and trace its run; compile and run a generated text of this many statements; give the text of the
--- fair lock. A run is by this many harts, for at most this many cycles.
+-- and trace its run; run the program of a file under the schedule of a trace; compile and run a
+-- generated text of this many statements; give the text of the fair lock. A run is by this many
+-- harts, for at most this many cycles.
 pub data Command : Type 0 where
   Run : (file : Text) (harts cycles : ℕ) (show : Option Text) → Command
   Build : (file image : Text) → Command
@@ -19,6 +20,7 @@ pub data Command : Type 0 where
   Unelf : (file image : Text) → Command
   Audit : (file : Text) (harts cycles : ℕ) → Command
   Trace : (file : Text) (harts cycles : ℕ) → Command
+  Replay : (file trace : Text) → Command
   Selftest : (statements : ℕ) → Command
   Locks : Command
 
@@ -47,8 +49,11 @@ pub record ReadsRun (words : List Text) (file : Text) (harts cycles : ℕ)
 abbrev pub no_values : Values
 no_values = record { file = []; harts = []; cycles = []; show = []; image = [] }
 
+abbrev pub only_files : List Text → Values
+only_files files = record no_values { file = files }
+
 abbrev pub only_file : Text → Values
-only_file file = record { file = file ∷ []; harts = []; cycles = []; show = []; image = [] }
+only_file file = only_files (file ∷ [])
 
 -- A file that is read, and one that is put.
 abbrev pub two_files : Text → Text → Values
@@ -78,6 +83,8 @@ ReadsBehind word words (Audit file harts cycles) = (word ≡ codes "audit")
     × ReadsRun words file harts cycles None
 ReadsBehind word words (Trace file harts cycles) = (word ≡ codes "trace")
     × ReadsRun words file harts cycles None
+ReadsBehind word words (Replay file trace) =
+    (word ≡ codes "replay") × Gives words (only_files (file ∷ trace ∷ []))
 ReadsBehind word words (Selftest statements) =
     (word ≡ codes "selftest") × ReadsStatements words statements
 ReadsBehind word words Locks = (word ≡ codes "locks") × Gives words no_values
@@ -101,5 +108,6 @@ command_of (words.Elf image file) = Elf image.now file.now
 command_of (words.Unelf file image) = Unelf file.now image.now
 command_of (words.Audit file r) = Audit file.now r.harts r.cycles
 command_of (words.Trace file r) = Trace file.now r.harts r.cycles
+command_of (words.Replay file trace) = Replay file.now trace.now
 command_of (words.Selftest statements) = Selftest statements
 command_of words.Locks = Locks

@@ -44,6 +44,10 @@ abbrev pub option_rule : Text → Bool → Rule
 option_rule name required =
     record (new_rule name) { long = Some name; action = Some Set; required = required }
 
+-- The declaration of the name of a trace, the second file that a command reads.
+abbrev pub trace_rule : Rule
+trace_rule = record (new_rule (codes "trace")) { action = Some Set; required = true }
+
 abbrev pub run_parts : List Part
 run_parts = File ∷ Harts ∷ Cycles ∷ Show ∷ []
 
@@ -60,9 +64,16 @@ list_parts = File ∷ []
 abbrev pub written_command : Text → List Part → Shape
 written_command name ps = record (new_shape name) { rules = map written ps }
 
+-- The declaration of the command with the names of a source and of a trace.
+abbrev pub written_replay : Shape
+written_replay = record (new_shape (codes "replay")) { rules = written File ∷ trace_rule ∷ [] }
+
 -- A command without commands of its own.
+abbrev pub alone : Shape → App
+alone shape = record { top = shape; subs = [] }
+
 abbrev pub leaf : Text → List Part → App
-leaf name ps = record { top = written_command name ps; subs = [] }
+leaf name ps = alone (written_command name ps)
 
 -- The command is this one, and has no argument that the commands below it have too.
 pub record IsLocal (app : App) (command : Command) : Type 0 where
@@ -84,5 +95,5 @@ written_app = record {
       ∷ written_command (codes "exec") exec_parts ∷ written_command (codes "list") list_parts
       ∷ written_command (codes "elf") put_parts ∷ written_command (codes "unelf") put_parts
       ∷ written_command (codes "audit") exec_parts ∷ written_command (codes "trace") exec_parts
-      ∷ written_command (codes "selftest") list_parts ∷ written_command (codes "locks") [] ∷ [];
+      ∷ written_replay ∷ written_command (codes "selftest") list_parts ∷ written_command (codes "locks") [] ∷ [];
 }

@@ -49,6 +49,7 @@ fn asked_for<'a>(given: &ArgMatches<'a>, name: &str) -> Option<CommandWords<'a>>
         "unelf" => Some(CommandWords::Unelf(file?, text_of(given, "image")?)),
         "audit" => Some(CommandWords::Audit(file?, asked_run(given)?)),
         "trace" => Some(CommandWords::Trace(file?, asked_run(given)?)),
+        "replay" => Some(CommandWords::Replay(file?, text_of(given, "trace")?)),
         "selftest" => Some(CommandWords::Selftest(asked_statements(given)?)),
         "locks" => Some(CommandWords::Locks),
         _ => None,

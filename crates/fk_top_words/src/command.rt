@@ -35,6 +35,8 @@ pub enum CommandWords<'a> {
     /// `trace FILE --harts P --cycles N`: compiles a source and runs it, and tells what the harts
     /// commit in each cycle.
     Trace(&'a str, RunWords),
+    /// `replay FILE TRACE`: runs the program of a source under the schedule of a trace.
+    Replay(&'a str, &'a str),
     /// `selftest N`: compiles and runs a text with N statements, which is generated. N is from 1 to
     /// 500.
     Selftest(u32),

@@ -1,12 +1,12 @@
 //! The commands as `clap` reads them.
 
-ghost use Rattle.std.specs.Prelude.{◌≡◌, ℕ, List, [], false, IfOk, codes};
-ghost use Rattle.clap.specs.Simple.{App, app_of, with_rule, with_subcommand};
+ghost use Rattle.std.specs.Prelude.{◌≡◌, [], false, IfOk, codes};
+ghost use Rattle.clap.specs.Simple.{App, Shape, app_of, with_rule, with_subcommand};
 ghost use Rattle.clap.specs.Walk.{Rule, rule_of};
-ghost use Rattle.fk_top_words.specs.Arguments.{Part, File, Image};
-ghost use Rattle.fk_top_words.specs.Written.{written, option_rule, IsLocal, leaf, written_command};
+ghost use Rattle.fk_top_words.specs.Arguments.{File, Image};
+ghost use Rattle.fk_top_words.specs.Written.{written, option_rule, trace_rule, IsLocal, alone, leaf};
 ghost use Rattle.fk_top_words.specs.Written.{run_parts, put_parts, exec_parts, list_parts};
-ghost use Rattle.fk_top_words.specs.Written.{written_top, written_app};
+ghost use Rattle.fk_top_words.specs.Written.{written_replay, written_top, written_app};
 
 use clap::{Arg, ArgAction, Command};
 use std::alloc::{AllocError, Global};
@@ -17,6 +17,16 @@ fn file<'a>(alloc: Global) -> Arg<'a>
     ensures local { result.global ≡ false }
 {
     Arg::new(alloc, "file")
+        .action(ArgAction::Set)
+        .required(true)
+}
+
+// The name of the trace that `replay` reads, its second word.
+fn trace<'a>(alloc: Global) -> Arg<'a>
+    ensures rule { rule_of result ≡ trace_rule }
+    ensures local { result.global ≡ false }
+{
+    Arg::new(alloc, "trace")
         .action(ArgAction::Set)
         .required(true)
 }
@@ -62,10 +72,10 @@ fn holding<'a>(
     command: Result<Command<'a>, AllocError>,
     inner: Result<Command<'a>, AllocError>,
 ) -> Result<Command<'a>, AllocError>
-    ensures { (app : App) (name : List ℕ) (parts : List Part)
+    ensures { (app : App) (shape : Shape)
         → IfOk command.entry (λ c. app_of c ≡ app)
-        → IfOk inner.entry (IsLocal (leaf name parts))
-        → IfOk result (λ c. app_of c ≡ with_subcommand app (written_command name parts)) }
+        → IfOk inner.entry (IsLocal (alone shape))
+        → IfOk result (λ c. app_of c ≡ with_subcommand app shape) }
 {
     command?.subcommand(inner?)
 }
@@ -99,6 +109,13 @@ fn run<'a>(alloc: Global) -> Result<Command<'a>, AllocError>
     taking(running(alloc, "run"), option(alloc, "show", false))
 }
 
+// The command that reads a source and a trace.
+fn replaying<'a>(alloc: Global) -> Result<Command<'a>, AllocError>
+    ensures { IfOk result (IsLocal (alone written_replay)) }
+{
+    taking(reading(alloc, "replay"), trace(alloc))
+}
+
 // A command that puts a file, which it makes of another.
 fn putting<'a>(alloc: Global, name: &'a str) -> Result<Command<'a>, AllocError>
     ensures { IfOk result (IsLocal (leaf name.now put_parts)) }
@@ -129,6 +146,7 @@ pub(crate) fn commands<'a>(alloc: Global) -> Result<Command<'a>, AllocError>
     let files = holding(files, putting(alloc, "unelf"));
     let runs = holding(files, running(alloc, "audit"));
     let runs = holding(runs, running(alloc, "trace"));
+    let runs = holding(runs, replaying(alloc));
     let runs = holding(runs, reading(alloc, "selftest"));
     holding(runs, bare(alloc, "locks"))
 }

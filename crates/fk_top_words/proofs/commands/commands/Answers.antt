@@ -1,6 +1,6 @@
 use Rattle.std.proofs.Common.{[], codes}
 use Rattle.clap.specs.Simple.{App, with_subcommand}
-use Rattle.fk_top_words.specs.Written.{run_parts, put_parts, exec_parts, list_parts, written_command, written_top}
+use Rattle.fk_top_words.specs.Written.{run_parts, put_parts, exec_parts, list_parts, written_command, written_replay, written_top}
 use Rattle.fk_top_words.proofs.commands.commands.Goals as goal
 
 pub returns : goal.returns
@@ -14,14 +14,16 @@ returns c =
     let unelf : App = with_subcommand elf (written_command (codes "unelf") put_parts) in
     let audit : App = with_subcommand unelf (written_command (codes "audit") exec_parts) in
     let trace : App = with_subcommand audit (written_command (codes "trace") exec_parts) in
-    let selftest : App = with_subcommand trace (written_command (codes "selftest") list_parts) in
-    c.holding.ensures selftest (codes "locks") []
-    (c.holding-runs-3.ensures trace (codes "selftest") list_parts
-    (c.holding-runs-2.ensures audit (codes "trace") exec_parts
-    (c.holding-runs.ensures unelf (codes "audit") exec_parts
-    (c.holding-files-2.ensures elf (codes "unelf") put_parts
-    (c.holding-files.ensures list (codes "elf") put_parts
-    (c.holding-images-2.ensures exec (codes "list") list_parts
-    (c.holding-images.ensures build (codes "exec") exec_parts
-    (c.holding-sources-2.ensures run (codes "build") put_parts
-    (c.holding-sources.ensures top (codes "run") run_parts c.program.ensures c.run.ensures) c.putting.ensures) c.running.ensures) c.reading.ensures) c.putting-2.ensures) c.putting-3.ensures) c.running-2.ensures) c.running-3.ensures) c.reading-2.ensures) c.bare.ensures
+    let replay : App = with_subcommand trace written_replay in
+    let selftest : App = with_subcommand replay (written_command (codes "selftest") list_parts) in
+    c.holding.ensures selftest (written_command (codes "locks") [])
+    (c.holding-runs-4.ensures replay (written_command (codes "selftest") list_parts)
+    (c.holding-runs-3.ensures trace written_replay
+    (c.holding-runs-2.ensures audit (written_command (codes "trace") exec_parts)
+    (c.holding-runs.ensures unelf (written_command (codes "audit") exec_parts)
+    (c.holding-files-2.ensures elf (written_command (codes "unelf") put_parts)
+    (c.holding-files.ensures list (written_command (codes "elf") put_parts)
+    (c.holding-images-2.ensures exec (written_command (codes "list") list_parts)
+    (c.holding-images.ensures build (written_command (codes "exec") exec_parts)
+    (c.holding-sources-2.ensures run (written_command (codes "build") put_parts)
+    (c.holding-sources.ensures top (written_command (codes "run") run_parts) c.program.ensures c.run.ensures) c.putting.ensures) c.running.ensures) c.reading.ensures) c.putting-2.ensures) c.putting-3.ensures) c.running-2.ensures) c.running-3.ensures) c.replaying.ensures) c.reading-2.ensures) c.bare.ensures

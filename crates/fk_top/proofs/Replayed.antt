@@ -1,0 +1,28 @@
+-- What a replay comes to.
+use Rattle.std.proofs.Common.{◌≡◌, ℕ, List, Option, Some, None, Result, Ok, Err, sym, subst, ◌⊎◌, inl, inr}
+use Rattle.fk_syntax.specs.declared.facts.Facts.{Facts}
+use Rattle.fk_syntax.specs.Program.{ProgramTree}
+use Rattle.fk_replay_text.specs.declared.fault.ReplayFault.{ReplayFault}
+use Rattle.fk_replay_text.specs.declared.fault.ReplayFault.TheVariants.{BadTrace, NotPossible, Pace, Memory}
+use Rattle.fk_replay.specs.declared.end.Replayed.{Replayed}
+use Rattle.fk_top.specs.declared.status.Status.TheVariants.{TraceRefused, InputRefused}
+use Rattle.fk_top.specs.Outcome.{Outcome, EndsReplay, ReplaysTrace, answered, replayed, silent}
+
+-- an answer that has an outcome is that of a run, or refuses the trace
+pub answered_as : (sites : List (ℕ × ℕ × ℕ)) (answer : Result Replayed ReplayFault) (cycles : ℕ) (outcome : Outcome) (P : Outcome → Type 0) → ((run : Replayed) → answer ≡ Ok run → P (replayed sites run cycles))
+    → ((fault : ReplayFault) (line : List ℕ) → answer ≡ Err fault → P (silent TraceRefused line)) → answered sites answer cycles ≡ Some outcome → P outcome
+answered_as sites (Ok run) cycles outcome P runs refuses is = let same : replayed sites run cycles ≡ outcome = cc in subst P same (runs run refl)
+answered_as sites (Err (BadTrace line)) cycles outcome P runs refuses is = let same : silent TraceRefused _ ≡ outcome = cc in subst P same (refuses _ _ refl)
+answered_as sites (Err (NotPossible round)) cycles outcome P runs refuses is = let same : silent TraceRefused _ ≡ outcome = cc in subst P same (refuses _ _ refl)
+answered_as sites (Err (Pace round processor)) cycles outcome P runs refuses is = let same : silent TraceRefused _ ≡ outcome = cc in subst P same (refuses _ _ refl)
+answered_as sites (Err Memory) cycles outcome P runs refuses is = absurd (cc)
+
+-- what holds of a run that is accepted, of a trace and of an input that are refused, holds of all that a replay comes to
+module _ (program : ProgramTree) (facts : Facts) (trace text : List ℕ) (outcome : Outcome) (P : Outcome → Type 0) where
+  pub replay_as : ((sites : List (ℕ × ℕ × ℕ)) (run : Replayed) (cycles : ℕ) → P (replayed sites run cycles)) → ((line : List ℕ) → P (silent TraceRefused line)) → ((line : List ℕ) → P (silent InputRefused line))
+      → EndsReplay program facts trace text outcome → P outcome
+  replay_as runs refuses refuses_input (inl r) = subst P (sym r.is) (refuses _)
+  replay_as runs refuses refuses_input (inr r) = elim r.ends [
+    | inl input ↦ subst P (sym input.is) (refuses_input _)
+    | inr answers ↦ answered_as _ answers.answer r.cycles outcome P (λ run is. runs _ run r.cycles) (λ fault line is. refuses line) answers.is
+  ]
