@@ -167,7 +167,7 @@ module _ (core : List CoreOp) where
       let stays : actings_of core (set now x.number new) ≡ actings_of core now = same_actings now x.number here in
       record {
         phase = at.same ∙ break_one 0 x.number now a s fault.site here (λ g y low there. (before acting old now first s i x at lt is g y low there).ready) has.breaks
-            ∙ ap (λ (k : ℕ). record { store = s; acting = actings_of core now; fault = Some (record { site = fault.site; processor = k }) }) (sym who)
+            ∙ ap (λ (k : ℕ). record { store = s; acting = actings_of core now; fault = Some (record { site = fault.site; processor = k }) }) ((let z : 0 + x.number ≡ x.number = omega arith in z) ∙ sym who)
             ∙ ap (λ st. record { store = st; acting = actings_of core now; fault = Some (fault_of core fault) }) (sym has.store)
             ∙ ap (λ (ys : List (rounds.Acting Position)). record { store = s'; acting = ys; fault = Some (fault_of core fault) }) (sym stays);
         ready = λ e. absurd (let bad : Some fault ≡ None = e in cc);

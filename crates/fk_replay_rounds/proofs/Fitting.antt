@@ -413,8 +413,8 @@ module _ (round : Round) (last : ℕ) (joint : ℕ → Joint) (tree : t.Tree) (p
 
   pub is_fit : IsFitByLowest round last joint tree
   is_fit = record {
-    there = λ fit. all_from 0 round (λ k is. each_fits fit k is);
-    back = λ all. record { each = λ h is. each_back h is (one_of 0 round all h is) };
+    there = λ fit. all_from 0 round (λ k is. subst (λ (m : ℕ). fits_kind_below round last joint tree m (tree.places m) (t.kind tree (tree.places m)) ≡ true) (let e : k ≡ 0 + k = omega arith in e) (each_fits fit k is));
+    back = λ all. record { each = λ h is. each_back h is (subst (λ (m : ℕ). fits_kind_below round last joint tree m (tree.places m) (t.kind tree (tree.places m)) ≡ true) (let e : 0 + h ≡ h = omega arith in e) (one_of 0 round all h is)) };
   }
 
 pub tell : LowestMembersTell

@@ -204,7 +204,7 @@ module _ {W : Type 0} (next : W → Option (Step W)) (set : Setting) where
 
   pub keep : (round : Round) (s : State W) → AreOwn s.runners → KeepOwn next set round s
   keep round s own =
-      let first : OwnFrom 0 s.runners = own_from 0 s.runners own.each in
+      let first : OwnFrom 0 s.runners = own_from 0 s.runners (λ k r is. subst (λ (m : ℕ). IsOwn m r.has) (let e : k ≡ 0 + k = omega arith in e) (own.each k r is)) in
       let ask = own_asking 0 round s.runners first in
       let step = own_requests 0 0 (asking next set round s.runners) s.store ask in
       let r = all_requests 0 (asking next set round s.runners) s.store in
