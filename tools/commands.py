@@ -888,7 +888,7 @@ ROWS += [
     # an operation too many, which isn't local, in a round
     replays("sums.f95", 1, ONE_SUM.replace("0-0*5", "0-0*6") + ", end 4", 11, not_possible(1)),
     replays("sums.f95", 1, ONE_SUM.replace("0-0*3", "0-0*4") + ", end 4", 11, not_possible(2)),
-    replays("sums.f95", 1, ONE_SUM.replace("0-0*3", "0-0*2") + ", end 4", 7, stopped(4)),
+    replays("sums.f95", 1, ONE_SUM.replace("0-0*3", "0-0*2") + ", end 4", 7, stopped(4), b"5\n"),
     # a group acts whole: one of its members is dropped, or does another count
     replays("ranks.f95", 4, RANKS + ", end 6", 0, finished(6)),
     replays("ranks.f95", 4, RANKS.replace("c 3 0-3*3", "c 3 0-2*3") + ", end 6", 11, not_possible(3)),
