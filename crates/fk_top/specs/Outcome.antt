@@ -1,6 +1,7 @@
 -- The outcome of a command, for the file and the input that it reads.
 use Rattle.std.specs.Prelude.{◌≡◌, ℕ, ◌+◌, ◌-◌, ◌≤◌, ◌⊎◌, List, [], ◌∷◌, ◌++◌, length, map, min}
 use Rattle.std.specs.Prelude.{vec_len, slice_get, codes, Option, Some, None, Result, Ok, Err}
+use Rattle.std.specs.Prelude.{option_map}
 use Rattle.std.specs.List.{range_with_len}
 use Rattle.fk_num.specs.Limits.{most_data_words, most_text_bytes}
 use Rattle.fk_image.specs.declared.Image.{Image}

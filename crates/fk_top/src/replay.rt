@@ -7,9 +7,10 @@ ghost use Rattle.fk_layout.specs.Layout.{IsLayout, tables_by};
 ghost use Rattle.fk_compile.specs.Faithful.{words_by};
 ghost use Rattle.fk_compile.specs.Lists.{HasListOf};
 ghost use Rattle.fk_replay_lists.specs.Lists.{CanBeReplayed};
+ghost use Rattle.fk_replay_source.specs.Answer.{sites_by};
 ghost use Rattle.fk_top.specs.Ending.{outcome_of};
 ghost use Rattle.fk_top.specs.Outcome.{EndsReplay, RefusesSource, ReplaysSource, replay_report};
-ghost use Rattle.fk_top.specs.Outcome.{replay_status, replayed, sites_by};
+ghost use Rattle.fk_top.specs.Outcome.{replay_status, replayed};
 
 use crate::ending::{Ending, LastLine, Told, refused, refused_source};
 use crate::refused::{input_report_of, last_line_of, trace_report_of};
