@@ -4,3 +4,4 @@ pub mod Begins
 pub mod Requests
 pub mod Fitting
 pub mod Emptied
+pub mod Highest
