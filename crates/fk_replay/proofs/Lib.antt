@@ -1,1 +1,6 @@
 pub mod Lawful
+pub mod Ranges
+pub mod Last
+pub mod Known
+pub mod Composed
+pub mod Taking

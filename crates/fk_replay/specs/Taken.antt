@@ -1,5 +1,5 @@
 -- A run in memory, and what a round makes of it.
-use Rattle.std.specs.Prelude.{◌≡◌, ℕ, ◌+◌, ◌≤◌, ◌^◌, true, List, Some, None, vec_len}
+use Rattle.std.specs.Prelude.{◌≡◌, ℕ, ◌+◌, ◌≤◌, ◌^◌, ◌==◌, Bool, true, false, List, [], ◌∷◌, Some, None, vec_len}
 use Rattle.fk_tree.specs.View.{tree_of, processors}
 use Rattle.fk_meaning_store.specs.View.{store_of, processors_of}
 use Rattle.fk_meaning_state.specs.View.{setting_of}
@@ -62,3 +62,9 @@ module _ (core : List CoreOp) (round : Round) (old new : Run) where
   IsTaken Possible = IsDone
   IsTaken (Stopped fault) = IsStoppedBy fault
   IsTaken NotPossible = IsNeither
+
+-- whether a number is the last of some numbers
+abbrev pub is_last_of : (number : ℕ) → List ℕ → Bool
+is_last_of number [] = false
+is_last_of number (n ∷ []) = n == number
+is_last_of number (n ∷ m ∷ ns) = is_last_of number (m ∷ ns)

@@ -1,19 +1,18 @@
 //! Rounds.
 
-ghost use Rattle.std.specs.Prelude.{◌≡◌, ◌↔◌, ℕ, ◌+◌, ◌^◌, ◌<◌, ◌≤◌, map, length, vec_len};
-ghost use Rattle.std.specs.Prelude.{slice_index, IfOk, IsTrue};
+ghost use Rattle.std.specs.Prelude.{◌≡◌, ◌+◌, ◌^◌, ◌<◌, ◌≤◌, map, length, vec_len};
+ghost use Rattle.std.specs.Prelude.{IfOk};
 ghost use Rattle.fk_tree.specs.View.{tree_of, processors};
 ghost use Rattle.fk_meaning_state.specs.View.{setting_of};
 ghost use Rattle.fk_replay_text.specs.View.{range_of};
 ghost use Rattle.fk_replay_text.specs.Rounds.{round_of};
-ghost use Rattle.fk_meaning.specs.Round.{Round};
 ghost use Rattle.fk_replay_rounds.specs.Fits.{all_fit_below, AreThere};
 ghost use Rattle.fk_replay_phases.specs.Present.{present, all_acting, numbers_of};
 ghost use Rattle.fk_replay_phases.specs.Modes.{HaveModes};
 ghost use Rattle.fk_replay_phases.specs.Joints.{joint_at};
 ghost use Rattle.fk_replay.specs.Ranges.{AreRanges};
 ghost use Rattle.fk_replay.specs.Steady.{IsSteady};
-ghost use Rattle.fk_replay.specs.Taken.{IsRun, state_of, IsTaken};
+ghost use Rattle.fk_replay.specs.Taken.{IsRun, state_of, IsTaken, is_last_of};
 
 use crate::able::forget_all;
 use crate::enlist::enlist;
@@ -74,10 +73,7 @@ impl Run {
 
     /// Whether a processor is the last one of the round.
     fn is_last(&self, processor: u32) -> bool
-        // This holds for whatever round they are in.
-        ensures { (round : Round) → numbers_of self.now.acting.items ≡ present 0 round
-            → 0 < slice_index round processor
-            → IsTrue result ↔ ((h : ℕ) → processor < h → slice_index round h ≡ 0) }
+        ensures { result ≡ is_last_of processor (numbers_of self.now.acting.items) }
     {
         match self.acting.last() {
             Some(acting) => acting.number == processor,

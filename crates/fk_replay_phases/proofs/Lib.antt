@@ -2,3 +2,4 @@ pub mod Present
 pub mod Sparse
 pub mod Begins
 pub mod Requests
+pub mod Fitting

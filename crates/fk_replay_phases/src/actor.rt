@@ -53,7 +53,7 @@ fn do_locals(
     ensures locals { IfOk result
         (HasDoneLocals ops.now (setting_of setting) count runner.old runner.new) }
 {
-    for _ in 0..count {
+    for done in 0..count {
         if !do_one(setting, ops, runner)? {
             return Ok(false);
         }
