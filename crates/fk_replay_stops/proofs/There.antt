@@ -343,3 +343,275 @@ module _ {W : Type 0} (next : W → Option (Step W)) (set : Setting) where
     node_joins n kind Resuming x e =
         let both = and_parts (t.ready tree n) (all_join round fault.processor joint Resuming (ms n)) e in
         and_from (t.ready tree n) (all_do whole takes Resuming (ms n)) both.0 (joins_all n kind Resuming x (ms n) (λ m has. has) x.has_low (λ m has above. refl) both.1)
+
+    -- ---- who waits for parts can only resume
+    local_next : (due : Option (Step W)) → is_local_next next set due ≡ true → (step : Step W) × (due ≡ Some step) × (is_local (class_of step.operation) ≡ true)
+    local_next None e = untrue e
+    local_next (Some step) e = (step, refl, e)
+
+    due_next : (due : Option (Step W)) → is_some due ≡ true → (step : Step W) × (due ≡ Some step)
+    due_next None e = untrue e
+    due_next (Some step) e = (step, refl)
+
+    not_resume : (operation : Operation) → is_local (class_of operation) ≡ true → operation ≡ Resume → ⊥
+    not_resume operation e is = let bad : false ≡ true = sym (ap (λ (o : Operation). is_local (class_of o)) is) ∙ e in cc
+
+    -- a count is one if the next operation isn't local
+    waiter_joins : (count : ℕ) (q : Runner W) → may_act next set (suc count) q ≡ true → ((step : Step W) → next q.left ≡ Some step → step.operation ≡ Resume)
+        → joint_with next set (suc count) (Some q) ≡ Resuming
+    waiter_joins zero q e resume =
+        let due = due_next (next q.left) (and_parts (nat_lt 0 255 && true) (is_some (next q.left)) e).1 in
+        ap joint_due due.1 ∙ ap joint_of (resume due.0 due.1)
+    waiter_joins (suc c) q e resume =
+        let both = and_parts (nat_lt (suc c) 255 && are_local next set (suc c) q) (is_some (next (after_locals next set (suc c) q).left)) e in
+        let locals = (and_parts (nat_lt (suc c) 255) (are_local next set (suc c) q) both.0).1 in
+        let one = local_next (next q.left) (and_parts (is_local_next next set (next q.left)) (are_local next set c (after_one next set q)) locals).0 in
+        absurd (not_resume (one.0).operation one.2 (resume one.0 one.1))
+
+    waiting_joint : (h c first parts : ℕ) → slice_index round h ≡ suc c → t.kind tree (tree.places h) ≡ Some (Waiting first parts) → joint h ≡ Resuming
+    waiting_joint h c first parts e is =
+        let lt = in_runners h c e in
+        let q = there h lt in
+        let may = subst (λ (n : ℕ). may_act next set n q.0 ≡ true) e (may_at next set round rs h q.0 faults.may q.1) in
+        up_low next set round rs fault.processor h (in_round h c e)
+        ∙ ap₂ (λ (n : ℕ) (o : Option (Runner W)). joint_with next set n o) e q.1
+        ∙ waiter_joins c q.0 may (λ step due. known.waits h first parts q.0 step is q.1 due)
+
+    -- ---- where nodes have no parts left
+    no_node : (n h : ℕ) → Has tree n h → t.kind tree n ≡ None → ⊥
+    no_node n h has none = by (tree.nodes n) has none
+      where
+        by : (node : Option t.Node) → is_member h (t.members_of node) ≡ true → t.kind_of node ≡ None → ⊥
+        by None has' none' = untrue has'
+        by (Some node) has' none' = let clash : Some node.kind ≡ None = none' in cc
+
+    joined : (n h c : ℕ) (kind : Option Kind) → tree.places h ≡ n → slice_index round h ≡ suc c → t.kind tree n ≡ kind → IsLeaf tree n
+        → ((k : ℕ) → extra_by k kind ≡ once_if (is_needed k kind)) → (j : Joint) → IsJoined n kind j
+    joined n h c kind at e is leaf plain j =
+        let has : Has tree n h = subst (λ (k : ℕ). Has tree k h) at (own_member h (in_runners h c e)) in
+        let under = low_under n h has in
+        let bound = in_round h c e in
+        record { is = is; leaf = leaf; plain = plain; under = omega (arith, under, bound); has_low = low_member n h has }
+
+    -- ---- a processor up to the last one
+    own_takes : (h c : ℕ) → slice_index round h ≡ suc c → takes h ≡ joint h
+    own_takes h c e = takes_low h (in_runners h c e) (in_round h c e)
+
+    apart_joins : (n h c : ℕ) (kind : Option Kind) → IsJoined n kind (joint h) → slice_index round h ≡ suc c
+        → joins_below round fault.processor joint tree n (joint h) ≡ true → joins whole takes tree n (takes h) ≡ true
+    apart_joins n h c kind x e below = ap (joins whole takes tree n) (own_takes h c e) ∙ node_joins n kind (joint h) x below
+
+    ready_of : (n : ℕ) (j : Joint) → j ≡ Resuming → joins_below round fault.processor joint tree n j ≡ true → t.ready tree n ≡ true
+    ready_of n j is e =
+        (and_parts (t.ready tree n) (all_join round fault.processor joint Resuming (ms n))
+        (subst (λ (i : Joint). joins_below round fault.processor joint tree n i ≡ true) is e)).0
+
+    own_fits : (h c : ℕ) (kind : Option Kind) → slice_index round h ≡ suc c → t.kind tree (tree.places h) ≡ kind
+        → fits_kind_below round fault.processor joint tree h (tree.places h) kind ≡ true → fits_kind whole takes tree h (tree.places h) kind ≡ true
+    own_fits h c None e is below = absurd (no_node (tree.places h) h (own_member h (in_runners h c e)) is)
+    own_fits h c (Some Lockstep) e is below =
+        group_fits (tree.places h) h (slice_index round h) (group_counts (tree.places h) h c is refl e) (count_low h (in_runners h c e) (in_round h c e))
+    own_fits h c (Some (Waiting first parts)) e is below =
+        let n = tree.places h in
+        let ready = ready_of n (joint h) (waiting_joint h c first parts e is) below in
+        apart_joins n h c (Some (Waiting first parts)) (joined n h c (Some (Waiting first parts)) refl e is (leaf_ready tree n ready) (λ k. refl) (joint h)) e below
+    own_fits h c (Some (Asynchronous alone)) e is below =
+        let n = tree.places h in
+        apart_joins n h c (Some (Asynchronous alone)) (joined n h c (Some (Asynchronous alone)) refl e is (leaf_alone tree n alone is) (λ k. refl) (joint h)) e below
+
+    own_fit : (h c : ℕ) → slice_index round h ≡ suc c → fits_kind whole takes tree h (tree.places h) (t.kind tree (tree.places h)) ≡ true
+    own_fit h c e = own_fits h c (t.kind tree (tree.places h)) e refl (own_below h c e)
+
+    -- ---- one above the last one
+    -- who is asked by the lowest member of its node, which takes part in a joint operation
+    record IsAsked (h : ℕ) (kind : Option Kind) : Type 0 where
+      place : tree.places (low (tree.places h)) ≡ tree.places h
+      count : ℕ
+      low_count : slice_index round (low (tree.places h)) ≡ suc count
+      needed : needs (joint (low (tree.places h))) kind ≡ true
+
+    asked_by : (h : ℕ) (kind : Option Kind) → is_needed (tree.places h) kind ≡ true → IsAsked h kind
+    asked_by h kind e =
+        let n = tree.places h in
+        let both = and_parts ((tree.places (low n) == n) && nat_lt 0 (slice_index round (low n))) (needs (joint (low n)) kind) e in
+        let front = and_parts (tree.places (low n) == n) (nat_lt 0 (slice_index round (low n))) both.0 in
+        let some = some_count (slice_index round (low n)) front.1 in
+        record { place = eqb-true (tree.places (low n)) n front.0; count = some.0; low_count = some.1; needed = both.1 }
+
+    -- then it is about to do the same
+    one_asked : (j : Joint) (some : List ℕ) (h : ℕ) → is_member h some ≡ true → all_join round fault.processor joint j some ≡ true → joint h ≡ j
+    one_asked j some h has e =
+        same_of j (joint h)
+        (and_parts (nat_lt fault.processor h || (slice_index round h == 1)) (same_joint j (joint h)) (list_all_at (one_joins round fault.processor joint j) some h e has)).1
+
+    body_has : (kind : Option Kind) (n h : ℕ) → t.kind tree n ≡ kind → needs AtBarrier kind ≡ true → Has tree n h → is_member h (body_of kind (ms n)) ≡ true
+    body_has None n h is e has = absurd (no_node n h has is)
+    body_has (Some Lockstep) n h is e has = has
+    body_has (Some (Waiting first parts)) n h is e has = has
+    body_has (Some (Asynchronous false)) n h is e has = has
+    body_has (Some (Asynchronous true)) n h is e has = untrue e
+
+    joint_is_same : (n h : ℕ) (kind : Option Kind) (j : Joint) → t.kind tree n ≡ kind → needs j kind ≡ true → Has tree n h
+        → joins_below round fault.processor joint tree n j ≡ true → joint h ≡ j
+    joint_is_same n h kind Alone is e has below = untrue e
+    joint_is_same n h kind Starting is e has below = one_asked Starting (ms n) h has below
+    joint_is_same n h kind AtBarrier is e has below =
+        one_asked AtBarrier (body_of kind (ms n)) h (body_has kind n h is e has)
+        (subst (λ (k : Option Kind). all_join round fault.processor joint AtBarrier (body_of k (ms n)) ≡ true) is below)
+    joint_is_same n h kind Closing is e has below = one_asked Closing (ms n) h has below
+    joint_is_same n h kind Resuming is e has below =
+        one_asked Resuming (ms n) h has (and_parts (t.ready tree n) (all_join round fault.processor joint Resuming (ms n)) below).1
+
+    -- the lowest member's test, at a node that isn't in lockstep
+    low_below : (h : ℕ) (kind : Option Kind) → t.kind tree (tree.places h) ≡ kind → ((g n : ℕ) → fits_kind_below round fault.processor joint tree g n kind
+        ≡ joins_below round fault.processor joint tree n (joint g)) → (x : IsAsked h kind)
+        → joins_below round fault.processor joint tree (tree.places h) (joint (low (tree.places h))) ≡ true
+    low_below h kind is plain x =
+        let n = tree.places h in
+        sym (plain (low n) n)
+        ∙ subst (λ (k : Option Kind). fits_kind_below round fault.processor joint tree (low n) n k ≡ true) is
+        (subst (λ (m : ℕ). fits_kind_below round fault.processor joint tree (low n) m (t.kind tree m) ≡ true) x.place (own_below (low n) x.count x.low_count))
+
+    low_whole : (h : ℕ) (kind : Option Kind) → t.kind tree (tree.places h) ≡ kind → ((g n : ℕ) → fits_kind whole takes tree g n kind ≡ joins whole takes tree n (takes g))
+        → (x : IsAsked h kind) → joins whole takes tree (tree.places h) (joint (low (tree.places h))) ≡ true
+    low_whole h kind is plain x =
+        let n = tree.places h in
+        ap (joins whole takes tree n) (sym (own_takes (low n) x.count x.low_count)) ∙ sym (plain (low n) n)
+        ∙ subst (λ (k : Option Kind). fits_kind whole takes tree (low n) n k ≡ true) is
+        (subst (λ (m : ℕ). fits_kind whole takes tree (low n) m (t.kind tree m) ≡ true) x.place (own_fit (low n) x.count x.low_count))
+
+    -- what is so of a node that isn't in lockstep
+    record IsApart (kind : Option Kind) : Type 0 where
+      extra_is : (n : ℕ) → extra_by n kind ≡ once_if (is_needed n kind)
+      below_is : (g n : ℕ) → fits_kind_below round fault.processor joint tree g n kind ≡ joins_below round fault.processor joint tree n (joint g)
+      whole_is : (g n : ℕ) → fits_kind whole takes tree g n kind ≡ joins whole takes tree n (takes g)
+
+    -- its extra count is one or none; where it is one, the lowest member asks for it
+    asked_joint : (h : ℕ) (kind : Option Kind) → IsApart kind → t.kind tree (tree.places h) ≡ kind → h < length rs → IsAsked h kind
+        → joint h ≡ joint (low (tree.places h))
+    asked_joint h kind apart is lt x =
+        joint_is_same (tree.places h) h kind (joint (low (tree.places h))) is x.needed (own_member h lt) (low_below h kind is apart.below_is x)
+
+    apart_extra : (h : ℕ) (kind : Option Kind) (c : ℕ) → IsApart kind → t.kind tree (tree.places h) ≡ kind → extra h ≡ suc c → IsAsked h kind × (suc c ≡ 1)
+    apart_extra h kind c apart is e =
+        let n = tree.places h in
+        let one = once_is (is_needed n kind) c (sym (apart.extra_is n) ∙ ap (extra_by n) (sym is) ∙ e) in
+        (asked_by h kind one.0, one.1)
+
+    apart_fits : (h : ℕ) (kind : Option Kind) (c : ℕ) → IsApart kind → t.kind tree (tree.places h) ≡ kind → h < length rs → fault.processor < h → slice_index whole h ≡ suc c
+        → fits_kind whole takes tree h (tree.places h) kind ≡ true
+    apart_fits h kind c apart is lt above e =
+        let n = tree.places h in
+        let x = apart_extra h kind c apart is (sym (count_high h lt above) ∙ e) in
+        let same = takes_high h above (e ∙ x.1) ∙ asked_joint h kind apart is lt x.0 in
+        apart.whole_is h n ∙ ap (joins whole takes tree n) same ∙ low_whole h kind is apart.whole_is x.0
+
+    other_fits : (h : ℕ) (kind : Option Kind) (c : ℕ) → t.kind tree (tree.places h) ≡ kind → h < length rs → fault.processor < h → slice_index whole h ≡ suc c
+        → fits_kind whole takes tree h (tree.places h) kind ≡ true
+    other_fits h None c is lt above e = absurd (no_node (tree.places h) h (own_member h lt) is)
+    other_fits h (Some Lockstep) c is lt above e =
+        let n = tree.places h in
+        let has_low = low_member n h (own_member h lt) in
+        let at = placed n (low n) (leaf_lockstep tree n is) has_low in
+        let counts : slice_index round (low n) ≡ slice_index whole h = ap (extra_by n) (sym is) ∙ sym (count_high h lt above) in
+        group_fits n h (slice_index round (low n)) (group_counts n (low n) c is at (counts ∙ e)) (sym counts)
+    other_fits h (Some (Waiting first parts)) c is lt above e =
+        apart_fits h (Some (Waiting first parts)) c (record { extra_is = λ n. refl; below_is = λ g n. refl; whole_is = λ g n. refl }) is lt above e
+    other_fits h (Some (Asynchronous alone)) c is lt above e =
+        apart_fits h (Some (Asynchronous alone)) c (record { extra_is = λ n. refl; below_is = λ g n. refl; whole_is = λ g n. refl }) is lt above e
+
+    -- ---- all of them
+    in_whole : (h c : ℕ) → slice_index whole h ≡ suc c → h < length rs
+    in_whole h c e = let lt = within whole h c e in omega (arith, lt, long_whole)
+
+    fits_at : (h c : ℕ) → slice_index whole h ≡ c → fits whole takes tree h c ≡ true
+    fits_at h zero e = refl
+    fits_at h (suc c) e =
+        let lt = in_whole h c e in
+        ⊎_elim
+        (λ above. other_fits h (t.kind tree (tree.places h)) c refl lt above e)
+        (λ le. own_fit h c (sym (count_low h lt le) ∙ e))
+        (cases_lt fault.processor h)
+
+    all_fits : all_fit whole takes tree 0 whole ≡ true
+    all_fits =
+        fit_each whole takes tree 0 whole
+        (λ j. let here : j ≡ 0 + j = omega arith in subst (λ (i : ℕ). fits whole takes tree i (slice_index whole j) ≡ true) here (fits_at j (slice_index whole j) refl))
+
+    next_is : (q : Runner W) (j : Joint) (kind : Option Kind) → joint_due (next q.left) ≡ j → needs j kind ≡ true → is_some (next q.left) ≡ true
+    next_is q j kind is e = by (next q.left) is
+      where
+        by : (due : Option (Step W)) → joint_due due ≡ j → is_some due ≡ true
+        by None same = untrue (ap (λ (i : Joint). needs i kind) same ∙ e)
+        by (Some step) same = refl
+
+    may_once : (q : Runner W) → is_some (next q.left) ≡ true → may_act next set 1 q ≡ true
+    may_once q e = and_from (nat_lt 0 255 && true) (is_some (next q.left)) refl e
+
+    apart_may : (h : ℕ) (q : Runner W) (kind : Option Kind) → IsApart kind → t.kind tree (tree.places h) ≡ kind → h < length rs → fault.processor < h → slice_get rs h ≡ Some q
+        → (count : ℕ) → extra h ≡ count → may_act next set count q ≡ true
+    apart_may h q kind apart is lt above at zero e = refl
+    apart_may h q kind apart is lt above at (suc c) e =
+        let x = apart_extra h kind c apart is e in
+        let j = joint (low (tree.places h)) in
+        let due = ap (joint_next next set) (sym at) ∙ sym (up_high next set round rs fault.processor h above) ∙ asked_joint h kind apart is lt x.0 in
+        subst (λ (n : ℕ). may_act next set n q ≡ true) (sym x.1) (may_once q (next_is q j kind due x.0.needed))
+
+    other_may : (h : ℕ) (q : Runner W) (kind : Option Kind) → t.kind tree (tree.places h) ≡ kind → h < length rs → fault.processor < h → slice_get rs h ≡ Some q
+        → may_act next set (extra h) q ≡ true
+    other_may h q None is lt above at = absurd (no_node (tree.places h) h (own_member h lt) is)
+    other_may h q (Some Lockstep) is lt above at =
+        let n = tree.places h in
+        let own = own_member h lt in
+        let has_low = low_member n h own in
+        let l = there (low n) (member_at n (low n) has_low) in
+        subst (λ (count : ℕ). may_act next set count q ≡ true) (ap (extra_by n) (sym is))
+        (known.together n (low n) h (slice_index round (low n)) l.0 q is has_low own l.1 at (may_at next set round rs (low n) l.0 faults.may l.1))
+    other_may h q (Some (Waiting first parts)) is lt above at =
+        apart_may h q (Some (Waiting first parts)) (record { extra_is = λ n. refl; below_is = λ g n. refl; whole_is = λ g n. refl }) is lt above at (extra h) refl
+    other_may h q (Some (Asynchronous alone)) is lt above at =
+        apart_may h q (Some (Asynchronous alone)) (record { extra_is = λ n. refl; below_is = λ g n. refl; whole_is = λ g n. refl }) is lt above at (extra h) refl
+
+    at_under : (xs : List (Runner W)) (h : ℕ) (q : Runner W) → slice_get xs h ≡ Some q → h < length xs
+    at_under [] h q e = absurd (cc)
+    at_under (x ∷ xs) zero q e = omega arith
+    at_under (x ∷ xs) (suc h) q e = let lt = at_under xs h q e in omega arith
+
+    all_may : all_may_act next set whole rs ≡ true
+    all_may =
+        may_each next set whole rs long_whole
+        (λ h q at.
+        let lt = at_under rs h q at in
+        ⊎_elim
+        (λ above. subst (λ (count : ℕ). may_act next set count q ≡ true) (sym (count_high h lt above)) (other_may h q (t.kind tree (tree.places h)) refl lt above at))
+        (λ le. subst (λ (count : ℕ). may_act next set count q ≡ true) (sym (count_low h lt le)) (may_at next set round rs h q faults.may at))
+        (cases_lt fault.processor h))
+
+    is_cut : cut (suc fault.processor) whole ≡ round
+    is_cut = cut_extended fault.processor extra (suc fault.processor) 0 round (omega arith) (λ j le. faults.last j (omega (arith, le)))
+
+    whole_faults : (result next set whole s).fault ≡ Some fault
+    whole_faults =
+        let a = all_requests 0 (all_locals next set (begin_all next set whole rs)) s.store in
+        let b = all_requests 0 (all_locals next set (begin_all next set round rs)) s.store in
+        let left : requests 0 round rs s.store ≡ Some fault = sym (phase_fault tree b.store b.acting b.fault) ∙ faults.faults in
+        let processor = fault.processor in
+        let number : processor ≡ 0 + processor = omega arith in
+        phase_fault tree a.store a.acting a.fault
+        ∙ again fault.processor 0 whole rs s.store fault number (subst (λ (r : Round). requests 0 r rs s.store ≡ Some fault) (sym is_cut) left)
+
+    pub stopped : IsStopped next set round s
+    stopped = record {
+      running = known.running;
+      whole = whole;
+      allowed = and_from (all_may_act next set whole rs) (all_fit whole takes tree 0 whole) all_may all_fits;
+      fault = fault;
+      faults = whole_faults;
+      is_cut = sym is_cut;
+    }
+
+pub faults_of_the_last_stop : (W : Type 0) → FaultsOfTheLastStop W
+faults_of_the_last_stop W next set round s known = record {
+  there = λ fault faults. stopped next set s round fault known faults;
+  back = λ stopped'. back next set round s stopped';
+}
