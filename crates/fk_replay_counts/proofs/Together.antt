@@ -1,11 +1,10 @@
 -- A group in lockstep does a local operation: all its members do, and they stay together.
-use Rattle.std.proofs.Common.{◌≡◌, ◌≢◌, ℕ, zero, suc, ◌+◌, ◌<◌, ◌==◌, ◌&&◌, ◌||◌, Bool, true, false, true≢false, List, [], ◌∷◌, length, slice_get, Option, Some, None, is_some, is_none, refl, sym, ap, ap₂, ◌∙◌, subst, subst₂, arith, if◌then◌else◌}
+use Rattle.std.proofs.Common.{◌≡◌, ℕ, zero, suc, ◌+◌, ◌<◌, ◌==◌, ◌&&◌, ◌||◌, Bool, true, false, List, [], ◌∷◌, length, slice_get, Option, Some, None, is_some, is_none, refl, sym, ap, ◌∙◌, subst, arith}
 use Rattle.std.specs.Prelude.{slice_index}
 use Rattle.std.specs.List.{list_all}
 use Rattle.std.proofs.lemmas.Bool.{and_parts, and_from, eqb-true, eq-eqb}
 use Rattle.fk_tree.specs.declared.node.Kind.{Kind}
 use Rattle.fk_tree.specs.declared.node.Kind.TheVariants.{Lockstep}
-use Rattle.fk_tree.specs.Tree as t
 use Rattle.fk_tree.specs.Tree.{Tree, members, is_member, kind}
 use Rattle.fk_tree.specs.Sound.{Has, IsSound}
 use Rattle.fk_tree.proofs.Shapes.{has_some}
@@ -15,9 +14,8 @@ use Rattle.fk_meaning.specs.Processor.{Setting}
 use Rattle.fk_meaning.specs.Round.{Step, Runner, State, Round, joint_at, fits_kind, fits, all_fit, after_one, after_locals, begin_all, result, is_local_next, are_local, may_act, all_may_act, is_allowed, is_possible}
 use Rattle.fk_meaning.specs.Schedule.{Schedule, run}
 use Rattle.fk_lockstep.specs.OneProgram.{HaveOneProgram}
-use Rattle.fk_lockstep.proofs.Round.{at_below}
 use Rattle.fk_replay_counts.proofs.Quiet.{AreQuiet, advanced, gone_on, quiet_result}
-use Rattle.fk_replay_counts.proofs.Parts.{MayAct, may_parts, may_from, local_is_due}
+use Rattle.fk_replay_counts.proofs.Parts.{may_parts, may_from, local_is_due}
 
 -- all members of a lockstep group are placed there
 pub group_place : (p n : ℕ) (tree : Tree) → IsSound p tree → kind tree n ≡ Some Lockstep → (h : ℕ) → Has tree n h → tree.places h ≡ n

@@ -16,8 +16,8 @@ pub untrue : {A : Type 0} → false ≡ true → A
 untrue e = absurd (false≢true e)
 
 pub or_not : (a b : Bool) → a ≡ false → (a || b) ≡ true → b ≡ true
-or_not true b no e = untrue (sym no)
-or_not false b no e = e
+or_not true b isnt e = untrue (sym isnt)
+or_not false b isnt e = e
 
 -- a test holds of all members if it does of each
 pub all_members : (f : ℕ → Bool) (ms : List ℕ) → ((m : ℕ) → is_member m ms ≡ true → f m ≡ true) → list_all f ms ≡ true

@@ -79,6 +79,10 @@ module _ {W : Type 0} (next : W → Option (Step W)) (set : Setting) where
   abbrev acted : ℕ → Runner W → Acting W
   acted c r = let b = begin next set c r in local_phase next set b b.due
 
+  abbrev served : ℕ → Round → List (Runner W) → Store → Acting W → Phase W → Option Fault
+  served number round rs s a phase =
+      (after_phase number s a (all_locals next set (begin_all next set round rs)) (all_requests (suc number) (all_locals next set (begin_all next set round rs))) phase).fault
+
   none_asks : (first number : ℕ) (round : Round) (rs : List (Runner W)) (s : Store) → first ≡ 0 → requests number (cut first round) rs s ≡ None
   none_asks zero number [] rs s e = refl
   none_asks zero number (c ∷ round) [] s e = refl
@@ -92,24 +96,23 @@ module _ {W : Type 0} (next : W → Option (Step W)) (set : Setting) where
       → requests number (cut (suc above) round) rs s ≡ Some f → requests number round rs s ≡ Some f
   again above number [] rs s f is e = e
   again above number (c ∷ round) [] s f is e = e
-  again above number (c ∷ round) (r ∷ rs) s f is e = by (request_phase s (acted c r) (acted c r).due) refl
+  again above number (c ∷ round) (r ∷ rs) s f is e =
+      by (λ k s' is' e'. again k (suc number) round rs s' f is' e') (request_phase s (acted c r) (acted c r).due) refl
     where
-      abbrev served : Round → Phase W → Option Fault
-      served others phase =
-          (after_phase number s (acted c r) (all_locals next set (begin_all next set others rs)) (all_requests (suc number) (all_locals next set (begin_all next set others rs))) phase).fault
-
-      later : (k : ℕ) → above ≡ k → (s' : Store) → requests (suc number) (cut k round) rs s' ≡ Some f → requests (suc number) round rs s' ≡ Some f
-      later zero same s' e' = let none = none_asks zero (suc number) round rs s' refl in absurd (let bad : Some f ≡ None = sym e' ∙ none in cc)
-      later (suc k) same s' e' =
+      later : ((k : ℕ) (s' : Store) → f.processor ≡ suc number + k → requests (suc number) (cut (suc k) round) rs s' ≡ Some f → requests (suc number) round rs s' ≡ Some f)
+          → (k : ℕ) → above ≡ k → (s' : Store) → requests (suc number) (cut k round) rs s' ≡ Some f → requests (suc number) round rs s' ≡ Some f
+      later more zero same s' e' = let none = none_asks zero (suc number) round rs s' refl in absurd (let bad : Some f ≡ None = sym e' ∙ none in cc)
+      later more (suc k) same s' e' =
           let processor = f.processor in
-          let more : processor ≡ suc number + k = omega (arith, is, same) in
-          again k (suc number) round rs s' f more e'
+          let next_one : processor ≡ suc number + k = omega (arith, is, same) in
+          more k s' next_one e'
 
-      by : (phase : Phase W) → request_phase s (acted c r) (acted c r).due ≡ phase → requests number (c ∷ round) (r ∷ rs) s ≡ Some f
-      by (Passes s' a') p =
-          let behind : requests (suc number) (cut above round) rs s' ≡ Some f = sym (ap (served (cut above round)) p) ∙ e in
-          ap (served round) p ∙ later above refl s' behind
-      by (Breaks site) p = ap (served round) p ∙ sym (ap (served (cut above round)) p) ∙ e
+      by : ((k : ℕ) (s' : Store) → f.processor ≡ suc number + k → requests (suc number) (cut (suc k) round) rs s' ≡ Some f → requests (suc number) round rs s' ≡ Some f)
+          → (phase : Phase W) → request_phase s (acted c r) (acted c r).due ≡ phase → requests number (c ∷ round) (r ∷ rs) s ≡ Some f
+      by more (Passes s' a') p =
+          let behind : requests (suc number) (cut above round) rs s' ≡ Some f = sym (ap (served number (cut above round) rs s (acted c r)) p) ∙ e in
+          ap (served number round rs s (acted c r)) p ∙ later more above refl s' behind
+      by more (Breaks site) p = ap (served number round rs s (acted c r)) p ∙ sym (ap (served number (cut above round) rs s (acted c r)) p) ∙ e
 
   -- ---- the whole round
   module _ (s : State W) (round : Round) (fault : Fault) (known : IsTogether next set s) (faults : FaultsLast next set round s fault) where
