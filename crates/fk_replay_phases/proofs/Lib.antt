@@ -3,3 +3,4 @@ pub mod Sparse
 pub mod Begins
 pub mod Requests
 pub mod Fitting
+pub mod Dismiss
