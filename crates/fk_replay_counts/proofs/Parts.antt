@@ -255,10 +255,10 @@ module _ {W : Type 0} (next : W → Option (Step W)) (set : Setting) where
       let fits' = others_fit round joints s.tree 0 round both.1 in
       record {
         possible = and_from (is_none s.fault && is_allowed next set (firsts round) s) (is_none (result next set (firsts round) s).fault)
-        (and_from (is_none s.fault) (is_allowed next set (firsts round) s) (ap is_none running) first_allowed)
-        (ap (λ (x : State W). is_none x.fault) after);
+            (and_from (is_none s.fault) (is_allowed next set (firsts round) s) (ap is_none running) first_allowed)
+            (ap (λ (x : State W). is_none x.fault) after);
         after = after;
         allowed = and_from (all_may_act next set (others round) qs) (all_fit (others round) (joint_at (begin_all next set (others round) qs)) s.tree 0 (others round))
-        (others_may_all round s.runners both.0)
-        (subst (λ (actings : List (Acting W)). all_fit (others round) (joint_at actings) s.tree 0 (others round) ≡ true) (sym (same_begins round s.runners)) fits');
+            (others_may_all round s.runners both.0)
+            (subst (λ (actings : List (Acting W)). all_fit (others round) (joint_at actings) s.tree 0 (others round) ≡ true) (sym (same_begins round s.runners)) fits');
       }

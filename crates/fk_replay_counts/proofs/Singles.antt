@@ -123,7 +123,7 @@ module _ {W : Type 0} (next : W → Option (Step W)) (set : Setting) where
       record {
         earlier = are_all next set (earlier_in round) s x.possible going;
         last = and_from (is_none u.fault && is_allowed next set (last_in round) u) (is_none (result next set (last_in round) u).fault)
-        (and_from (is_none u.fault) (is_allowed next set (last_in round) u) (ap is_none going) x.allowed) (ap is_none ends);
+            (and_from (is_none u.fault) (is_allowed next set (last_in round) u) (ap is_none going) x.allowed) (ap is_none ends);
         same = x.same;
       }
 

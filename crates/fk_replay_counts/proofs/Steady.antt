@@ -86,5 +86,10 @@ pub runs_are_steady : (W X : Type 0) → RunsAreSteady W X
 runs_are_steady W X next place program always processors globals firsts input schedule some space possible none =
     steady next place program always processors globals firsts input some space (run next (setting_of processors globals input) schedule
     (opening processors globals input (slice_index firsts) program))
-    (record { schedule = schedule; possible = are_all next (setting_of processors globals input) schedule
-    (opening processors globals input (slice_index firsts) program) possible none; is = refl; going = none })
+    (record {
+      schedule = schedule;
+      possible = are_all next (setting_of processors globals input) schedule
+          (opening processors globals input (slice_index firsts) program) possible none;
+      is = refl;
+      going = none;
+    })

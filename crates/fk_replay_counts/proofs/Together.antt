@@ -146,10 +146,10 @@ module _ {W : Type 0} (next : W → Option (Step W)) (set : Setting) where
       record {
         round = round;
         possible = and_from (is_none s.fault && is_allowed next set round s) (is_none (result next set round s).fault)
-        (and_from (is_none s.fault) (is_allowed next set round s) (ap is_none none)
-        (and_from (all_may_act next set round s.runners) (all_fit round joints s.tree 0 round) (turns_may ms 0 s.runners all)
-        (fit_from p n s.tree sound is s.runners many joints 0 s.runners)))
-        (ap (λ (x : State W). is_none x.fault) after);
+            (and_from (is_none s.fault) (is_allowed next set round s) (ap is_none none)
+            (and_from (all_may_act next set round s.runners) (all_fit round joints s.tree 0 round) (turns_may ms 0 s.runners all)
+            (fit_from p n s.tree sound is s.runners many joints 0 s.runners)))
+            (ap (λ (x : State W). is_none x.fault) after);
         after = after;
         at = λ h r has there. advance_at ms 0 h s.runners r there (from_zero ms h has);
       }
