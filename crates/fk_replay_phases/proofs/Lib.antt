@@ -3,4 +3,5 @@ pub mod Sparse
 pub mod Begins
 pub mod Requests
 pub mod Fitting
-pub mod Dismiss
+pub mod Emptied
+pub mod Highest
