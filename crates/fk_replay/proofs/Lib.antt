@@ -4,3 +4,4 @@ pub mod Last
 pub mod Known
 pub mod Composed
 pub mod Taking
+pub mod Facts

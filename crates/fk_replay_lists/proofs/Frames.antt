@@ -40,15 +40,17 @@ module _ (core : List CoreOp) (main : ℕ) (local : HasLocalFrames core main) wh
   -- jumps lead to where the nests are the same
   same_by : (jumps i : ℕ) → local.nests (landing_by core jumps i) ≡ local.nests i
   same_by zero i = refl
-  same_by (suc jumps) i = by (slice_get core i) refl
+  same_by (suc jumps) i = by (λ j. same_by jumps j) (slice_get core i) refl
     where
-      jump : (op : CoreOp) → slice_get core i ≡ Some op → (b : Bool) → is_jump op ≡ b → local.nests (through b (landing_by core jumps) i op.target) ≡ local.nests i
-      jump op is true e = let leads = local.jumps i op is e in same_by jumps op.target ∙ leads.nested
-      jump op is false e = refl
+      jump : ((j : ℕ) → local.nests (landing_by core jumps j) ≡ local.nests j) → (op : CoreOp) → slice_get core i ≡ Some op → (b : Bool) → is_jump op ≡ b
+          → local.nests (through b (landing_by core jumps) i op.target) ≡ local.nests i
+      jump more op is true e = let leads = local.jumps i op is e in more op.target ∙ leads.nested
+      jump more op is false e = refl
 
-      by : (slot : Option CoreOp) → slice_get core i ≡ slot → local.nests (led_by slot (landing_by core jumps) i) ≡ local.nests i
-      by None is = refl
-      by (Some op) is = jump op is (is_jump op) refl
+      by : ((j : ℕ) → local.nests (landing_by core jumps j) ≡ local.nests j) → (slot : Option CoreOp) → slice_get core i ≡ slot
+          → local.nests (led_by slot (landing_by core jumps) i) ≡ local.nests i
+      by more None is = refl
+      by more (Some op) is = jump more op is (is_jump op) refl
 
   same_nests : (i : ℕ) → local.nests (landing core i) ≡ local.nests i
   same_nests i = same_by (length core) i

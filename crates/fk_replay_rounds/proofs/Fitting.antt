@@ -1,11 +1,11 @@
 -- If each processor of a round fits to the lowest member of its node, and the lowest member to all,
 -- then all of them fit.
-use Rattle.std.proofs.Common.{◌≡◌, ◌≢◌, ℕ, zero, suc, ◌+◌, ◌-◌, ◌<◌, ◌≤◌, Bool, true, false, ◌&&◌, ◌||◌, ◌⊎◌, inl, inr, List, [], ◌∷◌, length, Option, Some, None, ap, refl, sym, ◌∙◌, subst, arith}
+use Rattle.std.proofs.Common.{◌≡◌, ◌≢◌, ℕ, zero, suc, ◌+◌, ◌-◌, ◌<◌, ◌≤◌, Bool, true, false, ◌&&◌, ◌||◌, ◌⊎◌, inl, inr, List, [], ◌∷◌, Option, Some, None, ap, refl, sym, ◌∙◌, subst, arith}
 use Rattle.std.specs.Prelude.{◌==◌, nat_lt, nat_le, slice_index, if◌then◌else◌, is_none}
 use Rattle.std.specs.List.{list_all}
 use Rattle.fk_tree.specs.Tree as t
 use Rattle.fk_tree.specs.Tree.{is_member, is_from, have_ended, has_ended}
-use Rattle.fk_tree.specs.Sound.{IsSound, IsAt, Has, awaits, is_ascending, is_below_all}
+use Rattle.fk_tree.specs.Sound.{IsSound, Has, awaits, is_ascending, is_below_all}
 use Rattle.fk_tree.specs.declared.node.Kind.{Kind}
 use Rattle.fk_tree.specs.declared.node.Kind.TheVariants.{Lockstep, Waiting, Asynchronous}
 use Rattle.fk_meaning_operation.specs.declared.kinds.Joint.{Joint}
@@ -13,7 +13,7 @@ use Rattle.fk_meaning_operation.specs.declared.kinds.Joint.TheVariants.{Alone, S
 use Rattle.fk_meaning.specs.Round.{Round, same_joint, lowest, body_of}
 use Rattle.fk_replay_rounds.specs.declared.mode.Mode.TheVariants.{Apart}
 use Rattle.fk_replay_rounds.specs.Modes.{mode_of}
-use Rattle.fk_replay_rounds.specs.Fits.{one_joins, all_join, all_have, joins_below, fits_kind_below, fits_below, all_fit_below, joins_lowest, joins_by, fits_by, AreThere, FitByLowest, IsFitByLowest, LowestMembersTell}
+use Rattle.fk_replay_rounds.specs.Fits.{one_joins, all_join, all_have, joins_below, fits_kind_below, all_fit_below, joins_lowest, joins_by, fits_by, AreThere, FitByLowest, IsFitByLowest, LowestMembersTell}
 
 and_true : (a b : Bool) → a && b ≡ true → (a ≡ true) × (b ≡ true)
 and_true true b e = (refl, e)
@@ -45,7 +45,7 @@ list_all_at P (m ∷ ms) h all is = by (bool_cases (h == m)) (λ later. list_all
 
 -- ---- members
 
-member_lowest : (ms : List ℕ) (h : ℕ) → is_member h ms ≡ true → is_member (lowest ms) ms ≡ true
+pub member_lowest : (ms : List ℕ) (h : ℕ) → is_member h ms ≡ true → is_member (lowest ms) ms ≡ true
 member_lowest [] h is = absurd (let bad : false ≡ true = is in cc)
 member_lowest (m ∷ ms) h is = ap (λ (b : Bool). b || is_member m ms) (eq_to m m refl)
 
@@ -128,13 +128,15 @@ leaf_ready tree n ready = by (t.kind tree n) refl
     by None e = absurd (let bad : false ≡ true = sym (ap (t.is_ready tree) e) ∙ ready in cc)
     by (Some Lockstep) e = leaf_lockstep tree n e
     by (Some (Asynchronous alone)) e = leaf_alone tree n alone e
-    by (Some (Waiting first parts)) e = record { none = λ m is.
-        let from = from_of first parts m (sym (ap (λ k. awaits k m) e) ∙ is) in
-        ap tree.nodes from.2 ∙ ended_one tree first parts from.0 (sym (ap (t.is_ready tree) e) ∙ ready) from.1 }
+    by (Some (Waiting first parts)) e = record {
+      none = λ m is.
+          let from = from_of first parts m (sym (ap (λ k. awaits k m) e) ∙ is) in
+          ap tree.nodes from.2 ∙ ended_one tree first parts from.0 (sym (ap (t.is_ready tree) e) ∙ ready) from.1;
+    }
 
 -- ---- fitting
 
-same_of : (i j : Joint) → same_joint i j ≡ true → j ≡ i
+pub same_of : (i j : Joint) → same_joint i j ≡ true → j ≡ i
 same_of Alone Alone e = refl
 same_of Starting Starting e = refl
 same_of AtBarrier AtBarrier e = refl
@@ -202,7 +204,7 @@ module _ (round : Round) (last : ℕ) (joint : ℕ → Joint) (tree : t.Tree) (p
           sym (ap (λ (b : Bool). if b then all_have round last (slice_index round h) (t.members tree (tree.places h)) else (slice_index round (lowest (t.members tree (tree.places h))) == slice_index round h)) e) ∙ own
       by (inr e) =
           let count : slice_index round (lowest (t.members tree (tree.places h))) ≡ slice_index round h =
-              eq_of _ _ (sym (ap (λ (b : Bool). if b then all_have round last (slice_index round h) (t.members tree (tree.places h)) else (slice_index round (lowest (t.members tree (tree.places h))) == slice_index round h)) e) ∙ own) in
+          eq_of _ _ (sym (ap (λ (b : Bool). if b then all_have round last (slice_index round h) (t.members tree (tree.places h)) else (slice_index round (lowest (t.members tree (tree.places h))) == slice_index round h)) e) ∙ own) in
           let at = low_at h is (leaf_lockstep tree (tree.places h) kind) in
           let lows = subst (λ k. fits_by round last joint tree (lowest (t.members tree (tree.places h))) (tree.places h) (mode_of k) ≡ true) kind (at_low fit h at (omega arith)) in
           subst (λ (c : ℕ). all_have round last c (t.members tree (tree.places h)) ≡ true) count
@@ -269,8 +271,8 @@ module _ (round : Round) (last : ℕ) (joint : ℕ → Joint) (tree : t.Tree) (p
           let parts = and_true (t.ready tree (tree.places h)) (joins_lowest round last joint tree h (tree.places h) Resuming) (own_at Resuming e) in
           ap (joins_below round last joint tree (tree.places h)) e
           ∙ both (t.ready tree (tree.places h)) (all_join round last joint Resuming (t.members tree (tree.places h))) parts.0
-            (joins_all Resuming h is parts.1 (λ one does. (and_true (t.ready tree (tree.places h)) (joins_lowest round last joint tree (lowest (t.members tree (tree.places h))) (tree.places h) Resuming)
-                (test_at fit h false (low_at h is (ready_leaf parts.0)) shape Resuming one does)).1))
+          (joins_all Resuming h is parts.1 (λ one does. (and_true (t.ready tree (tree.places h)) (joins_lowest round last joint tree (lowest (t.members tree (tree.places h))) (tree.places h) Resuming)
+          (test_at fit h false (low_at h is (ready_leaf parts.0)) shape Resuming one does)).1))
 
   -- in the body of a `seq`
   alone_fits : (fit : FitByLowest round last joint tree) (h : ℕ) → 0 < slice_index round h → t.kind tree (tree.places h) ≡ Some (Asynchronous true)
@@ -343,7 +345,7 @@ module _ (round : Round) (last : ℕ) (joint : ℕ → Joint) (tree : t.Tree) (p
       by (inl e) = ap (λ (b : Bool). if b then all_have round last (slice_index round h) (t.members tree (tree.places h)) else (slice_index round (lowest (t.members tree (tree.places h))) == slice_index round h)) e ∙ all
       by (inr e) =
           let one : (nat_lt last (lowest (t.members tree (tree.places h))) || (slice_index round (lowest (t.members tree (tree.places h))) == slice_index round h)) ≡ true =
-              list_all_at (λ (m : ℕ). nat_lt last m || (slice_index round m == slice_index round h)) (t.members tree (tree.places h)) (lowest (t.members tree (tree.places h))) all (low_has h is) in
+          list_all_at (λ (m : ℕ). nat_lt last m || (slice_index round m == slice_index round h)) (t.members tree (tree.places h)) (lowest (t.members tree (tree.places h))) all (low_has h is) in
           ap (λ (b : Bool). if b then all_have round last (slice_index round h) (t.members tree (tree.places h)) else (slice_index round (lowest (t.members tree (tree.places h))) == slice_index round h)) e
           ∙ (sym (ap (λ (b : Bool). b || (slice_index round (lowest (t.members tree (tree.places h))) == slice_index round h)) (lt_false last (lowest (t.members tree (tree.places h))) (low_below h is))) ∙ one)
 

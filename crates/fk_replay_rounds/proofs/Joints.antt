@@ -1,5 +1,5 @@
 -- The joint operations of a round, which neither local operations nor requests are.
-use Rattle.std.proofs.Common.{◌≡◌, ℕ, zero, suc, ◌+◌, ◌<◌, ◌≤◌, Bool, true, false, ◌&&◌, ◌||◌, ◌⊎◌, inl, inr, List, [], ◌∷◌, length, map, Option, Some, None, ap, refl, sym, ◌∙◌, subst, arith}
+use Rattle.std.proofs.Common.{◌≡◌, ℕ, zero, suc, ◌≤◌, Bool, true, false, ◌&&◌, ◌||◌, List, [], ◌∷◌, length, Option, Some, None, ap, refl, sym, ◌∙◌, arith}
 use Rattle.std.specs.Prelude.{◌==◌, nat_lt, slice_index, slice_get, if◌then◌else◌}
 use Rattle.std.specs.List.{list_all}
 use Rattle.fk_tree.specs.Tree as t
@@ -15,11 +15,11 @@ use Rattle.fk_meaning_operation.specs.declared.kinds.Joint.{Joint}
 use Rattle.fk_meaning_operation.specs.declared.kinds.Joint.TheVariants.{Alone, Starting, AtBarrier, Closing, Resuming}
 use Rattle.fk_meaning_store.specs.Store.{Store}
 use Rattle.fk_meaning_store.specs.Serve.{Answer, Served, Faults, serve}
-use Rattle.fk_meaning.specs.Processor.{Processor, Setting}
+use Rattle.fk_meaning.specs.Processor.{Setting}
 use Rattle.fk_meaning.specs.Request.{request, with_answer}
 use Rattle.fk_meaning.specs.Group.{has_room}
-use Rattle.fk_meaning.specs.Round.{Step, Runner, Acting, Round, Phase, Passes, Breaks, taking, done, answered, do_request, request_phase, after_phase, all_requests, do_local, local_phase, begin, begin_all, asking, joint_due, joint_at, same_joint, body_of, all_do, joins, fits_kind, fits, all_fit}
-use Rattle.fk_replay_rounds.specs.Fits.{one_joins, all_join, all_have, joins_below, fits_kind_below, fits_below, all_fit_below}
+use Rattle.fk_meaning.specs.Round.{Step, Runner, Acting, Round, Phase, Passes, Breaks, taking, done, answered, do_request, request_phase, after_phase, all_requests, do_local, local_phase, begin, begin_all, asking, joint_due, joint_at, same_joint, body_of, all_do, joins, fits_kind, all_fit}
+use Rattle.fk_replay_rounds.specs.Fits.{one_joins, all_join, joins_below, fits_kind_below, all_fit_below}
 use Rattle.fk_replay_rounds.specs.Joint.{TakenJointsStay, WholeRoundsFit}
 
 pub local_alone : (operation : Operation) → class_of operation ≡ Local → joint_of operation ≡ Alone

@@ -9,15 +9,15 @@ use Rattle.fk_meaning_operation.specs.declared.operation.Variable.TheVariants.{P
 use Rattle.fk_meaning_store.specs.Store.{Store}
 use Rattle.fk_meaning_operation.specs.declared.kinds.FaultKind.TheVariants.{CallDepth}
 use Rattle.fk_meaning_store.specs.Serve.{Answer, Served, Faults, serve, words_of}
-use Rattle.fk_meaning.specs.Processor.{Processor, Level, Call, Setting, values, last, drop_last, to_outer, leave_level}
+use Rattle.fk_meaning.specs.Processor.{Processor, Level, Call, Setting, values, last, drop_last, to_outer}
 use Rattle.fk_meaning.specs.Local.{local, taken, stored, to_caller, unframed}
 use Rattle.fk_meaning.specs.Request.{request, with_answer}
-use Rattle.fk_meaning.specs.Group.{has_room, does, divided, framed, with_block, allotted, part, stays, is_taken, with_size}
+use Rattle.fk_meaning.specs.Group.{has_room, does, divided, framed, allotted, part, stays, is_taken}
 use Rattle.fk_meaning_operation.specs.Kinds.{class_of}
 use Rattle.fk_meaning_operation.specs.declared.kinds.Class.{Class}
 use Rattle.fk_meaning_operation.specs.declared.kinds.Class.TheVariants.{Local, Request, Tree}
 use Rattle.fk_tree.specs.Tree as t
-use Rattle.fk_meaning.specs.Round.{Step, Runner, Acting, State, Round, Fault, Phase, Passes, Breaks, runner_of, taking, done, answered, do_request, request_phase, after_phase, all_requests, settled, settled_by, all_changes, tree_phase, do_local, local_phase, after_one, after_locals, begin, asking}
+use Rattle.fk_meaning.specs.Round.{Step, Runner, Acting, State, Round, Fault, Passes, Breaks, runner_of, taking, done, answered, do_request, request_phase, after_phase, all_requests, settled, settled_by, all_changes, tree_phase, do_local, local_phase, after_one, after_locals, begin, asking}
 use Rattle.fk_replay_rounds.specs.Own.{IsOwn, AreOwn, KeepOwn}
 
 by_if : (h : ℕ) (b : Bool) (p q : Processor) → IsOwn h p → IsOwn h q → IsOwn h (if b then p else q)

@@ -1,5 +1,5 @@
 -- What each processor keeps in a run.
-use Rattle.std.specs.Prelude.{◌≡◌, ℕ, ◌<◌, List, length, None, Some, Option, slice_get, map}
+use Rattle.std.specs.Prelude.{◌≡◌, ℕ, ◌<◌, List, length, Some, Option, slice_get, map}
 use Rattle.fk_meaning.specs.Processor.{Processor, Setting}
 use Rattle.fk_meaning.specs.Round.{Step, Runner, State, Round, runner_of, asking, all_requests}
 use Rattle.fk_meaning.specs.Round.{result}
