@@ -1,7 +1,7 @@
 -- How many processors are absent, by the remainders of the rounds since which they are.
 use Rattle.std.proofs.Common.{◌≡◌, ℕ, zero, suc, ◌+◌, ◌-◌, ◌%◌, ◌<◌, ◌≤◌, ◌^◌, ◌==◌, ◌⊎◌, Bool, true, false, cond, List, [], ◌∷◌, length, get_or, set, Option, Some, None, refl, sym, ◌∙◌, ap, subst, inl, inr, arith}
 use Rattle.std.specs.Prelude.{count_by, is_some, slice_get, slice_index}
-use Rattle.std.proofs.lemmas.List.{length-set, get_or-set_same, get_or-set_other}
+use Rattle.std.proofs.lemmas.List.{length-set, get_or-set_same, get_or-set_other, get_or_default}
 use Rattle.std.proofs.lemmas.List.Sums.{sum_by-cons, sum_by-set, count_by-le-length}
 use Rattle.std.proofs.lemmas.Option.{slice_get_within, get_or_from_slice_get}
 use Rattle.fk_replay_steps.specs.Pace.{Absences, IsCounted, IsLateNow, has_remainder, if_there, remainder, since}
@@ -52,6 +52,11 @@ own_remainder k r is = grind arith
 
 same_or_not : (k j : ℕ) → (k ≡ j) ⊎ (k ≡ j → ⊥)
 same_or_not k j = grind arith
+
+pub read_part : (parts : List ℕ) (k round n : ℕ) → length parts ≡ 256 → k ≡ remainder round → n ≡ get_or parts k n → n ≡ slice_index parts (remainder round)
+read_part parts k round n all is read =
+    let low : k < length parts = omega arith in
+    read ∙ get_or_default parts k n 0 low ∙ ap (λ i. get_or parts i 0) is
 
 -- the parts after one of them is changed
 module _ (absences new : Absences) (parts : List ℕ) (k n : ℕ) where

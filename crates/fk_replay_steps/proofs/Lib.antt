@@ -1,6 +1,9 @@
 pub mod Ends
+pub mod Reads
 pub mod Landing
 pub mod Counted
 pub mod Words
 pub mod Arguments
-pub mod Passing
+pub mod Views
+pub mod Asked
+pub mod Rooms

@@ -61,7 +61,7 @@ impl Pace {
         ensures { self.new ≡ begun self.old processor round }
     {
         let at = processor as usize;
-        if let Some(None) = self.since.get(at) {
+        if let Some(None) = self.since.get(at).copied() {
             self.since[at] = Some(round);
             self.counts[place(round)] += 1;
             self.able += 1;
