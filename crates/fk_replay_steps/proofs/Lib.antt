@@ -1,9 +1,7 @@
 pub mod Ends
-pub mod Reads
+pub mod ReadAt
 pub mod Landing
 pub mod Counted
 pub mod Words
 pub mod Arguments
-pub mod Views
-pub mod Asked
 pub mod Rooms

@@ -1,10 +1,9 @@
 -- A split that finds its words has few parts.
-use Rattle.std.proofs.Common.{◌≡◌, ℕ, ◌+◌, ◌-◌, ◌*◌, ◌<◌, ◌≤◌, ◌^◌, zero, suc, Bool, true, false, cond, Option, Some, None, is_some, nat_lt, refl, ap, sym, ◌∙◌, arith}
+use Rattle.std.proofs.Common.{◌≡◌, ℕ, ◌*◌, ◌≤◌, ◌^◌, Bool, true, false, cond, Option, Some, None, is_some, nat_lt, refl, ap, sym, ◌∙◌, arith}
 use Rattle.std.proofs.lemmas.Bool.{ltb-false}
 use Rattle.fk_space.specs.Space.{Space, IsSpace, equal_part, free, share}
-use Rattle.fk_meaning.specs.Group.{has_parts}
 
-few_shares : (s : Space) → IsSpace s → (k : ℕ) → is_some (share s k) ≡ true → k ≤ 2 ^ 18
+pub few_shares : (s : Space) → IsSpace s → (k : ℕ) → is_some (share s k) ≡ true → k ≤ 2 ^ 18
 few_shares s space k is = by (nat_lt (free s) (4 * k)) refl
   where
     by : (b : Bool) → nat_lt (free s) (4 * k) ≡ b → k ≤ 2 ^ 18
@@ -18,7 +17,3 @@ few_shares s space k is = by (nat_lt (free s) (4 * k)) refl
         let within = space.within in
         let shared = space.shared in
         omega arith
-
-pub few_parts : (s : Space) → IsSpace s → (k : ℕ) → has_parts s k ≡ true → k ≤ 2 ^ 18
-few_parts s space zero is = omega arith
-few_parts s space (suc k) is = few_shares s space (suc k) is

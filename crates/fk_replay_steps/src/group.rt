@@ -187,6 +187,8 @@ pub fn has_room(operation: Operation, processor: &Processor) -> bool
         Operation::Frame { words, .. } => processor.level.space.frame(words).is_some(),
         Operation::Split(by) => {
             let count = parts(by, processor);
+            // A space has at most 2^20 free words.
+            let _ = processor.level.space.free();
             count == 0 || processor.level.space.share(count).is_some()
         }
         _ => true,

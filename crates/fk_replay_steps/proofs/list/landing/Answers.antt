@@ -1,7 +1,7 @@
 use Rattle.std.proofs.Common.{◌≡◌, ℕ, ◌<◌, length, Some, slice_get, true, sym, ◌∙◌, arith}
 use Rattle.fk_core.specs.Next.{is_jump}
 use Rattle.fk_replay_steps.proofs.Landing.{on}
-use Rattle.fk_replay_steps.proofs.Reads.{read_at}
+use Rattle.fk_replay_steps.proofs.ReadAt.{read_at}
 use Rattle.fk_replay_steps.proofs.list.landing.Goals as goal
 
 pub loop-preserved : goal.loop-preserved

@@ -9,6 +9,6 @@ returns c =
     let values = c.args.values.now in
     let left = c.saturating_sub-left.result in
     let zeros = c.args.count - (length values - left) in
-    let all : c.extend_from_slice.new.self.items ≡ replicate zeros 0 ++ drop left values = grind (arith, common_steps) in
+    let all : c.extend_from_slice.new.self.items ≡ replicate {A = ℕ} zeros 0 ++ drop left values = grind (arith, common_steps) in
     let is_left : left ≡ length values - c.args.count = grind (arith, common_steps) in
     ap slice_index all ∙ made_arguments values c.args.count left zeros is_left refl
