@@ -1,10 +1,10 @@
 -- How many processors are absent, by the remainders of the rounds since which they are.
 use Rattle.std.proofs.Common.{◌≡◌, ℕ, zero, suc, ◌+◌, ◌-◌, ◌%◌, ◌<◌, ◌≤◌, ◌^◌, ◌==◌, ◌⊎◌, Bool, true, false, cond, List, [], ◌∷◌, length, get_or, set, Option, Some, None, refl, sym, ◌∙◌, ap, subst, inl, inr, arith}
 use Rattle.std.specs.Prelude.{count_by, is_some, slice_get, slice_index}
-use Rattle.std.proofs.lemmas.List.{length-set, get_or-set_same, get_or-set_other}
+use Rattle.std.proofs.lemmas.List.{length-set, get_or-set_same, get_or-set_other, get_or_default, set_past}
 use Rattle.std.proofs.lemmas.List.Sums.{sum_by-cons, sum_by-set, count_by-le-length}
-use Rattle.std.proofs.lemmas.Option.{slice_get_within, get_or_from_slice_get}
-use Rattle.fk_replay_steps.specs.Pace.{Absences, IsCounted, IsLateNow, has_remainder, if_there, remainder, since}
+use Rattle.std.proofs.lemmas.Option.{slice_get_within, slice_get-get_or, slice_get_past, get_or_from_slice_get}
+use Rattle.fk_replay_steps.specs.Pace.{Absences, IsCounted, begun, IsLateNow, has_remainder, if_there, remainder, since}
 
 abbrev number : Bool → ℕ
 number b = cond b 1 0
@@ -52,6 +52,11 @@ own_remainder k r is = grind arith
 
 same_or_not : (k j : ℕ) → (k ≡ j) ⊎ (k ≡ j → ⊥)
 same_or_not k j = grind arith
+
+pub read_part : (parts : List ℕ) (k round n : ℕ) → length parts ≡ 256 → k ≡ remainder round → n ≡ get_or parts k n → n ≡ slice_index parts (remainder round)
+read_part parts k round n all is read =
+    let low : k < length parts = omega arith in
+    read ∙ get_or_default parts k n 0 low ∙ ap (λ i. get_or parts i 0) is
 
 -- the parts after one of them is changed
 module _ (absences new : Absences) (parts : List ℕ) (k n : ℕ) where
@@ -144,6 +149,27 @@ one_less absences parts able h round n is e there =
         all = all_here;
       };
     }
+
+-- ---- what begins
+
+since_there : (absences : Absences) (h : ℕ) (x : Option ℕ) → slice_get absences h ≡ Some x → since absences h ≡ x
+since_there absences h x e = ap if_there e
+
+pub begun_past : (absences : Absences) (h round : ℕ) → length absences ≤ h → absences ≡ begun absences h round
+begun_past absences h round le =
+    sym (ap (λ (o : Option ℕ). cond (is_some o) absences (set absences h (Some round))) (ap if_there (slice_get_past absences h le)) ∙ set_past absences h (Some round) le)
+
+pub begun_able : (absences : Absences) (h round : ℕ) (x : Option ℕ) → slice_get absences h ≡ Some x → is_some x ≡ true → absences ≡ begun absences h round
+begun_able absences h round x e some =
+    sym (ap (λ (b : Bool). cond b absences (set absences h (Some round))) (ap is_some (since_there absences h x e) ∙ some))
+
+pub begun_absent : (absences : Absences) (h round : ℕ) (x : Option ℕ) → slice_get absences h ≡ Some x → is_some x ≡ false → set absences h (Some round) ≡ begun absences h round
+begun_absent absences h round x e none =
+    sym (ap (λ (b : Bool). cond b absences (set absences h (Some round))) (ap is_some (since_there absences h x e) ∙ none))
+
+pub is_none : (x : Option ℕ) → is_some x ≡ false → x ≡ None
+is_none None none = refl
+is_none (Some r) none = absurd (cc)
 
 -- ---- nobody is absent
 
