@@ -2,7 +2,8 @@
 
 ghost use Rattle.std.specs.Prelude.{◌≡◌, ℕ, ◌↔◌, List, Option, None, IfOk, IsTrue, is_some, set};
 ghost use Rattle.std.specs.Prelude.{replicate};
-ghost use Rattle.fk_replay_steps.specs.Pace.{since as since_of, begun, IsLeastLate, IsCounted, remainder};
+ghost use Rattle.fk_replay_steps.specs.Pace.{since as since_of, begun, remainder};
+ghost use Rattle.fk_replay_steps.specs.Pace.{IsLeastLate, IsCounted};
 
 use std::alloc::{AllocError, Global};
 use std::marker::Model;
