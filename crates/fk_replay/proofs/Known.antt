@@ -286,7 +286,7 @@ module _ (core : List CoreOp) (tree : Tree) (actors : List Actor) (p : ℕ) (sou
         count = min (not_negative (last (values (who (actings_of core actors) (highest (t.members tree (tree.places h))))))) (length (t.members tree (tree.places h)))
 
         all : length (t.members tree (tree.places h)) ≡ p
-        all = ap (λ (n : ℕ). length (t.members tree n)) root ∙ ap length sound.root ∙ length_below p []
+        all = ap (λ (n : ℕ). length (t.members tree n)) root ∙ ap length sound.root ∙ length_below p [] ∙ (let z : p + 0 ≡ p = omega arith in z)
           where
             length_below : (q : ℕ) (more : List ℕ) → length (t.below q more) ≡ q + length more
             length_below zero more = let e : length more ≡ 0 + length more = omega arith in e
