@@ -1,5 +1,5 @@
 -- Value lists, of which the code has the last value at the end.
-use Rattle.std.proofs.Common.{◌≡◌, ℕ, zero, suc, ◌+◌, ◌-◌, ◌<◌, ◌≤◌, List, [], ◌∷◌, ◌++◌, length, get_or, take, drop, reverse, ap, refl, sym, ◌∙◌, arith}
+use Rattle.std.proofs.Common.{◌≡◌, ℕ, zero, suc, ◌-◌, ◌<◌, ◌≤◌, List, [], ◌∷◌, ◌++◌, length, get_or, take, drop, reverse, ap, refl, sym, ◌∙◌, arith}
 use Rattle.std.proofs.lemmas.List.{get_or-reverse, length-reverse, reverse-append, length-take-le, length-drop, take-append-drop}
 use Rattle.fk_meaning.specs.Processor.{last, before}
 

@@ -196,12 +196,7 @@ pub fn has_room(operation: Operation, processor: &Processor) -> bool
 }
 
 /// Which way a member takes.
-pub fn goes_onward(
-    operation: Operation,
-    highest: u32,
-    lowest: u32,
-    processor: &Processor,
-) -> bool
+pub fn goes_onward(operation: Operation, highest: u32, lowest: u32, processor: &Processor) -> bool
     ensures { result ≡ g.goes_onward operation highest lowest (processor_of processor.now) }
 {
     match operation {

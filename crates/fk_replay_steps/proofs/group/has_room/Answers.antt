@@ -11,7 +11,7 @@ returns-else-count-eq0-clause-few c =
     let values = reverse c.args.processor.now.call.values.items in
     let count = c.parts-count.result in
     λ is by operation.
-      let same : c.in-Split.by ≡ by = cc in
-      let found : is_some (share space count) ≡ true = ap is_some (sym c.share.ensures) ∙ sym c.is_some-else-count-eq0.ensures ∙ is in
-      let counted : count ≡ parts by values = c.parts-count.ensures ∙ ap (λ (b : SplitKind). parts b values) same in
-      subst (λ (k : ℕ). k ≤ 2 ^ 18) counted (few_shares space c.free.ensures.space count found)
+    let same : c.in-Split.by ≡ by = cc in
+    let found : is_some (share space count) ≡ true = ap is_some (sym c.share.ensures) ∙ sym c.is_some-else-count-eq0.ensures ∙ is in
+    let counted : count ≡ parts by values = c.parts-count.ensures ∙ ap (λ (b : SplitKind). parts b values) same in
+    subst (λ (k : ℕ). k ≤ 2 ^ 18) counted (few_shares space c.free.ensures.space count found)

@@ -1,4 +1,4 @@
-use Rattle.std.proofs.Common.{◌≡◌, ℕ, ◌<◌, length, Some, slice_get, true, sym, ◌∙◌, arith}
+use Rattle.std.proofs.Common.{◌≡◌, Some, slice_get, true, sym, ◌∙◌}
 use Rattle.fk_core.specs.Next.{is_jump}
 use Rattle.fk_replay_steps.proofs.Landing.{on}
 use Rattle.fk_replay_steps.proofs.ReadAt.{read_at}

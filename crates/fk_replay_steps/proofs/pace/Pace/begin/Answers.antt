@@ -1,4 +1,4 @@
-use Rattle.std.proofs.Common.{◌≡◌, ℕ, ◌+◌, ◌-◌, ◌<◌, ◌≤◌, ◌^◌, List, Option, Some, None, length, is_some, true, false, set, slice_get, slice_index, ap, subst, sym, ◌∙◌, arith}
+use Rattle.std.proofs.Common.{◌≡◌, ℕ, ◌+◌, List, Option, Some, None, length, is_some, true, false, set, slice_get, slice_index, ap, subst, sym, ◌∙◌, arith}
 use Rattle.std.proofs.lemmas.Option.{slice_get_read}
 use Rattle.fk_replay_steps.specs.Pace.{IsCounted, begun, remainder}
 use Rattle.fk_replay_steps.proofs.Counted.{begun_past, begun_able, begun_absent, is_none, one_more, read_part}
@@ -14,13 +14,13 @@ returns-then-len-at c =
     let len = c.len.ensures in
     let all : c.len.result ≡ length items = omega arith in
     let same : items ≡ begun items p round = elim c.then-len-at.branch [
-      then-len-at-via-then-len-at w ↦
-        let past = w.if-len-at.true in
-        begun_past items p round (omega arith)
+      | then-len-at-via-then-len-at w ↦
+          let past = w.if-len-at.true in
+          begun_past items p round (omega arith)
       | then-len-at-via-else-len-at+then-is_some w ↦
-        let x = w.index.result.now in
-        let some : is_some x ≡ true = cc in
-        begun_able items p round x (slice_get_read items c.len.result p x all w.if-len-at.false w.index.ensures) some
+          let x = w.index.result.now in
+          let some : is_some x ≡ true = cc in
+          begun_able items p round x (slice_get_read items c.len.result p x all w.if-len-at.false w.index.ensures) some
     ] in
     subst (λ (a : List (Option ℕ)). a ≡ begun a p round) c.self.view_is same
 

@@ -1,4 +1,4 @@
-use Rattle.std.proofs.Common.{◌≡◌, ℕ, ◌+◌, ◌-◌, ◌<◌, ◌≤◌, ◌^◌, List, Option, Some, None, length, set, slice_get, slice_index, ap, subst, sym, ◌∙◌, arith}
+use Rattle.std.proofs.Common.{◌≡◌, ℕ, ◌-◌, Option, Some, None, length, set, slice_get, slice_index, ap, subst, sym, ◌∙◌, arith}
 use Rattle.std.proofs.lemmas.Option.{slice_get_read}
 use Rattle.fk_replay_steps.specs.Pace.{IsCounted, remainder}
 use Rattle.fk_replay_steps.proofs.Counted.{one_less, read_part}
@@ -17,7 +17,7 @@ overflow_sub-index_mut c =
     let len = c.len.ensures in
     let all : c.len.result ≡ length items = omega arith in
     let there : slice_get items p ≡ Some (Some round) =
-        slice_get_read items c.len.result p x all c.if-len-at.false c.index.ensures ∙ ap (λ (o : Option ℕ). Some o) c.in-Some.is in
+    slice_get_read items c.len.result p x all c.if-len-at.false c.index.ensures ∙ ap (λ (o : Option ℕ). Some o) c.in-Some.is in
     let was : n ≡ slice_index parts (remainder round) = read_part parts c.place.result round n c.self.invariant.parted c.place.ensures c.index_mut-in-Some.ensures.value in
     let less = one_less items parts able p round n c.self.invariant there was in
     less.part_some
@@ -35,7 +35,7 @@ invariant_of-self c =
     let len = c.len.ensures in
     let all : c.len.result ≡ length items = omega arith in
     let there : slice_get items p ≡ Some (Some round) =
-        slice_get_read items c.len.result p x all c.if-len-at.false c.index.ensures ∙ ap (λ (o : Option ℕ). Some o) c.in-Some.is in
+    slice_get_read items c.len.result p x all c.if-len-at.false c.index.ensures ∙ ap (λ (o : Option ℕ). Some o) c.in-Some.is in
     let was : n ≡ slice_index parts (remainder round) = read_part parts c.place.result round n c.self.invariant.parted c.place.ensures c.index_mut-in-Some.ensures.value in
     let less = one_less items parts able p round n c.self.invariant there was in
     subst (λ (k : ℕ). IsCounted (set items p None) (set parts k (n - 1)) (able - 1)) (sym c.place.ensures) less.counted
