@@ -1,16 +1,14 @@
 -- A call that ends can give back its frames.
-use Rattle.std.proofs.Common.{◌≡◌, ℕ, zero, suc, ◌+◌, ◌≤◌, Bool, true, false, true≢false, List, [], ◌∷◌, ◌++◌, length, slice_get, Option, Some, None, is_some, refl, sym, ap, ◌∙◌, subst, arith}
-use Rattle.fk_num.specs.Word.{Memory}
-use Rattle.fk_space.specs.Space.{Space, IsSpace}
+use Rattle.std.proofs.Common.{◌≡◌, ℕ, zero, suc, ◌+◌, ◌≤◌, Bool, true, false, true≢false, List, ◌∷◌, ◌++◌, length, slice_get, Option, Some, None, is_some, refl, sym, ap, ◌∙◌, subst, arith}
 use Rattle.fk_meaning_operation.specs.declared.operation.Operation.{Operation}
 use Rattle.fk_meaning_operation.specs.declared.operation.Operation.TheVariants as o
 use Rattle.fk_meaning.specs.Processor.{Processor, Setting}
 use Rattle.fk_meaning.specs.Round.{Step, Runner}
 use Rattle.fk_core.specs.declared.op.CoreOp.{CoreOp}
-use Rattle.fk_core.specs.Next.{Position, is_jump, through, led_by, landing_by, landing, next}
-use Rattle.fk_lockstep_frames.specs.Nests.{Nest, OfFunction, taken, words_in}
-use Rattle.fk_lockstep_frames.specs.Taken.{HasTaken, AreTaken, AreBegun, HasNests, spaces_of, frames_of, lows_of}
-use Rattle.fk_lockstep_frames.specs.Lists.{nests_of, told, GoesOn, HasLocalFrames, HasToldFrames}
+use Rattle.fk_core.specs.Next.{Position, is_jump, through, led_by, landing_by, landing}
+use Rattle.fk_lockstep_frames.specs.Nests.{Nest, OfFunction, taken}
+use Rattle.fk_lockstep_frames.specs.Taken.{HasNests}
+use Rattle.fk_lockstep_frames.specs.Lists.{nests_of, GoesOn, HasLocalFrames, HasToldFrames}
 use Rattle.fk_lockstep_frames.proofs.Found.{Found}
 use Rattle.fk_replay_steps.specs.Steps.{CanGiveBack, GivesBack}
 

@@ -1,5 +1,5 @@
 -- What is left of a whole round up to its first fault.
-use Rattle.std.proofs.Common.{◌≡◌, ⊎_elim, ℕ, zero, suc, ◌+◌, ◌<◌, ◌≤◌, ◌==◌, ◌&&◌, ◌||◌, Bool, true, false, List, [], ◌∷◌, length, slice_get, Option, Some, None, nat_lt, refl, sym, ap, ap₂, ◌∙◌, subst, arith}
+use Rattle.std.proofs.Common.{◌≡◌, ⊎_elim, ℕ, zero, suc, ◌+◌, ◌<◌, ◌≤◌, ◌==◌, ◌&&◌, ◌||◌, Bool, true, List, [], ◌∷◌, slice_get, Option, Some, None, nat_lt, refl, sym, ap, ap₂, ◌∙◌, subst, arith}
 use Rattle.std.specs.Prelude.{slice_index}
 use Rattle.std.specs.List.{list_all}
 use Rattle.std.proofs.lemmas.Bool.{cases_lt, and_parts, and_from, or_right, eqb-true, lt-ltb}
@@ -12,7 +12,7 @@ use Rattle.fk_meaning.specs.Processor.{Setting}
 use Rattle.fk_meaning.specs.Round.{Step, Runner, State, Round, cut, joint_at, same_joint, body_of, all_do, joins, fits_kind, fits, all_fit, begin_all, may_act, all_may_act, IsStopped}
 use Rattle.fk_meaning.proofs.Stopped.{stopped_faults}
 use Rattle.fk_replay_rounds.specs.Fits.{all_have, one_joins, all_join, joins_below, fits_kind_below, fits_below, all_fit_below}
-use Rattle.fk_replay_rounds.specs.Stops.{joint_up_to, joint_next, FaultsLast}
+use Rattle.fk_replay_rounds.specs.Stops.{joint_up_to, FaultsLast}
 use Rattle.fk_replay_rounds.proofs.Fitting.{list_all_at}
 use Rattle.fk_replay_stops.proofs.Places.{untrue, all_members, cut_low, cut_high, fit_at, below_each, joint_with, joint_is, one_is_next, up_low, up_high}
 

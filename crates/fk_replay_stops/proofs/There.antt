@@ -1,8 +1,7 @@
 -- The whole round of which a round is left that has its first fault at its last processor.
-use Rattle.std.proofs.Common.{◌≡◌, ◌≢◌, ⊎_elim, ℕ, zero, suc, ◌+◌, ◌<◌, ◌≤◌, ◌==◌, ◌&&◌, ◌||◌, Bool, true, false, List, [], ◌∷◌, length, slice_get, Option, Some, None, nat_lt, is_some, is_none, refl, sym, ap, ap₂, ◌∙◌, subst, arith, if◌then◌else◌}
+use Rattle.std.proofs.Common.{◌≡◌, ⊎_elim, ℕ, zero, suc, ◌+◌, ◌<◌, ◌≤◌, ◌==◌, ◌&&◌, ◌||◌, Bool, true, false, List, [], ◌∷◌, length, slice_get, Option, Some, None, nat_lt, is_some, refl, sym, ap, ap₂, ◌∙◌, subst, arith, if◌then◌else◌}
 use Rattle.std.specs.Prelude.{slice_index}
-use Rattle.std.specs.List.{list_all}
-use Rattle.std.proofs.lemmas.Bool.{cases_lt, and_parts, and_from, or_right, eqb-true, eq-eqb, lt-ltb, le-ltb, ltb-true}
+use Rattle.std.proofs.lemmas.Bool.{cases_lt, and_parts, and_from, eqb-true, eq-eqb, lt-ltb, le-ltb, ltb-true}
 use Rattle.fk_meaning_operation.specs.Kinds.{class_of, joint_of}
 use Rattle.fk_meaning_operation.specs.declared.operation.Operation.{Operation}
 use Rattle.fk_meaning_operation.specs.declared.operation.Operation.TheVariants.{Resume}
@@ -13,14 +12,14 @@ use Rattle.fk_tree.specs.declared.node.Kind.{Kind}
 use Rattle.fk_tree.specs.declared.node.Kind.TheVariants.{Lockstep, Waiting, Asynchronous}
 use Rattle.fk_tree.specs.Tree as t
 use Rattle.fk_tree.specs.Tree.{is_member}
-use Rattle.fk_tree.specs.Sound.{IsSound, Has}
+use Rattle.fk_tree.specs.Sound.{Has}
 use Rattle.fk_meaning.specs.Processor.{Setting}
-use Rattle.fk_meaning.specs.Round.{Step, Runner, State, Fault, Round, Acting, Phase, Passes, Breaks, cut, request_phase, after_phase, all_requests, lowest, joint_due, joint_at, same_joint, body_of, all_do, joins, fits_kind, fits, all_fit, is_local, local_phase, after_one, after_locals, begin, begin_all, all_locals, result, is_local_next, are_local, may_act, all_may_act, is_allowed, IsStopped}
+use Rattle.fk_meaning.specs.Round.{Step, Runner, State, Fault, Round, Acting, Phase, Passes, Breaks, cut, request_phase, after_phase, all_requests, lowest, joint_due, joint_at, same_joint, body_of, all_do, joins, fits_kind, fits, all_fit, is_local, local_phase, after_one, after_locals, begin, begin_all, all_locals, result, is_local_next, are_local, may_act, all_may_act, IsStopped}
 use Rattle.fk_meaning.proofs.Stopped.{phase_fault}
-use Rattle.fk_replay_rounds.specs.Fits.{all_have, one_joins, all_join, joins_below, fits_kind_below, fits_below, all_fit_below}
+use Rattle.fk_replay_rounds.specs.Fits.{all_have, one_joins, all_join, joins_below, fits_kind_below, fits_below}
 use Rattle.fk_replay_rounds.specs.Stops.{joint_next, joint_up_to, IsTogether, FaultsLast, FaultsOfTheLastStop}
 use Rattle.fk_replay_rounds.proofs.Fitting.{list_all_at, lowest_below, member_lowest, same_of, IsLeaf, member_there, leaf_lockstep, leaf_alone, leaf_ready}
-use Rattle.fk_replay_stops.proofs.Places.{untrue, or_not, all_members, within, cut_low, cut_high, fit_each, below_at, may_at, may_each, same_length, joint_with, joint_is, one_is_next, up_low, up_high}
+use Rattle.fk_replay_stops.proofs.Places.{untrue, or_not, all_members, within, fit_each, below_at, may_at, may_each, same_length, joint_with, joint_is, one_is_next, up_low, up_high}
 use Rattle.fk_replay_stops.proofs.Back.{back}
 
 -- whether a joint operation of the lowest member needs all other members of a node
