@@ -18,7 +18,9 @@ use Rattle.fk_replay_source.specs.Answer.{IsAnswerFor, sites_by}
 use Rattle.fk_compile.specs.Faithful.{words_by}
 use Rattle.fk_top_input.specs.Input.{input_of}
 use Rattle.fk_top.specs.declared.ending.Ending.{Ending}
+use Rattle.fk_top.specs.declared.reason.Reason.TheVariants as reasons
 use Rattle.fk_top.specs.declared.report.Report.{Report}
+use Rattle.fk_top.specs.declared.report.Report.TheVariants.{Refused}
 use Rattle.fk_top.specs.declared.status.Status.TheVariants.{TraceRefused}
 use Rattle.fk_top.specs.Ending.{outcome_of}
 use Rattle.fk_top.specs.Report.{line_of}
@@ -32,7 +34,7 @@ pub refusing_trace : (bytes : List ℕ) (fault : ReplayFault) (report : Option R
 refusing_trace bytes fault (Some x) (Ok e) Q (inl memory) says is = let none : Some x ≡ None = says ∙ ap trace_report_of memory in absurd (cc)
 refusing_trace bytes fault (Some x) (Ok e) Q (inr bad) says is =
     let told = says ∙ ap trace_report_of bad.1 in
-    let same : x ≡ _ = cc in
+    let same : x ≡ Refused (reasons.BadTrace bad.0) = cc in
     inl (record { line = bad.0; bad = bad.2; is = is ∙ ap (λ (report : Report). silent TraceRefused (line_of report)) same })
 refusing_trace bytes fault None (Ok e) Q (inl memory) says is = absurd (cc)
 refusing_trace bytes fault None (Ok e) Q (inr bad) says is = absurd (cc)
