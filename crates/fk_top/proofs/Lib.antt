@@ -1,7 +1,7 @@
 pub mod Readable
 pub mod Replayed
 pub mod Replaying
-pub mod Reading
+pub mod Fetched
 pub mod Inputs
 pub mod Runs
 pub mod Lost
