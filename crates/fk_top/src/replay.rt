@@ -77,8 +77,7 @@ fn accepted<'a>(listed: &Listed, run: Replayed, cycles: u32) -> Ending<'a>
     requires laid { IsLayout (program_of listed.now.text.tree) listed.now.text.facts
         listed.now.text.layout }
     ensures { outcome_of result
-        ≡ replayed (sites_by (program_of listed.now.text.tree) listed.now.text.facts) run.entry
-        cycles }
+        ≡ replayed (sites_by (program_of listed.now.text.tree) listed.now.text.facts) run cycles }
 {
     let line = LastLine::Reported(report_of(listed, run.end, cycles));
     Ending::Told(Told {
