@@ -1,5 +1,5 @@
 -- What a replay comes to.
-use Rattle.std.proofs.Common.{◌≡◌, ℕ, List, Some, Result, Ok, Err, sym, subst, inl, inr}
+use Rattle.std.proofs.Common.{◌≡◌, ℕ, List, Some, Result, Ok, Err, refl, sym, subst, inl, inr}
 use Rattle.fk_syntax.specs.declared.facts.Facts.{Facts}
 use Rattle.fk_syntax.specs.Program.{ProgramTree}
 use Rattle.fk_replay_text.specs.declared.fault.ReplayFault.{ReplayFault}
