@@ -1,8 +1,9 @@
 -- The lowest members bring the steps of their nodes to the tree, one after the other.
-use Rattle.std.proofs.Common.{◌≡◌, ◌≢◌, ℕ, zero, suc, ◌+◌, ◌-◌, ◌*◌, ◌^◌, ◌<◌, ◌≤◌, Bool, true, false, ◌⊎◌, inl, inr, List, [], ◌∷◌, length, get_or, drop, map, Option, Some, None, ap, refl, sym, ◌∙◌, subst, arith}
+use Rattle.std.proofs.Common.{◌≡◌, ◌≢◌, ℕ, zero, suc, ◌+◌, ◌-◌, ◌*◌, ◌^◌, ◌<◌, ◌≤◌, Bool, true, false, ◌||◌, ◌⊎◌, inl, inr, List, [], ◌∷◌, length, get_or, drop, map, Option, Some, None, ap, refl, sym, ◌∙◌, subst, arith}
 use Rattle.std.specs.Prelude.{◌==◌, slice_index, slice_get, if◌then◌else◌, option_map}
 use Rattle.std.proofs.Math.Path.{fun_ext}
 use Rattle.std.proofs.lemmas.List.{drop_all, length-map}
+use Rattle.std.proofs.lemmas.Option.{get_or_from_slice_get}
 use Rattle.fk_tree.specs.Tree as t
 use Rattle.fk_tree.specs.Tree.{Tree, is_member}
 use Rattle.fk_tree.specs.Sound.{IsSound, Has}
@@ -38,7 +39,7 @@ drop_get [] n x e = absurd (let bad : None ≡ Some x = e in cc)
 drop_get (y ∷ ys) zero x e = let same : y ≡ x = cc in ap (λ z. z ∷ ys) same
 drop_get (y ∷ ys) (suc n) x e = drop_get ys n x e
 
-there_is : {A : Type 0} (xs : List A) (n : ℕ) → n < length xs → (x : A) × (slice_get xs n ≡ Some x)
+pub there_is : {A : Type 0} (xs : List A) (n : ℕ) → n < length xs → (x : A) × (slice_get xs n ≡ Some x)
 there_is [] n lt = absurd (let z : ⊥ = omega arith in z)
 there_is (x ∷ xs) zero lt = (x, refl)
 there_is (x ∷ xs) (suc n) lt = there_is xs n (omega arith)
@@ -131,6 +132,23 @@ module _ (p : ℕ) (old : Tree) (acting : List acts.Acting) (actors : List Actor
 
     element : (i : ℕ) (x : acts.Acting) → i < length acting → x ≡ get_or acting i x → x ≡ acting_at old x.number
     element i x lt is = element_of acting i x (acting_at old) given.at_old lt is
+
+    -- a member that comes next is a processor, and few came before it
+    pub next_below : (i : ℕ) (now : Tree) (x : acts.Acting) → ChangesAt i now → i < length acting → x ≡ get_or acting i x → (x.number < length actors) × (i < 1024)
+    next_below i now x at lt is =
+        let ahead = next_acting given.in_round.round at.n acting i x at.ahead lt is in
+        let next = ahead.next.1 in
+        let high = next.high in
+        let low = next.low in
+        let all = given.in_round.many in
+        let many = given.many in
+        let before = at.few in
+        let few = given.few in
+        (omega (arith, high, all), omega (arith, high, low, all, many, before, few))
+
+    -- what is taken by the actor that is there
+    pub taken_at : (h : ℕ) (other a : Actor) (due : Due) → slice_get actors h ≡ Some a → (get_or actors h other).taken ≡ Some due → a.taken ≡ Some due
+    taken_at h other a due here taken = sym (ap (λ (x : Actor). x.taken) (get_or_from_slice_get actors h a other here)) ∙ taken
 
     -- nothing is changed by a member that isn't the lowest, or has nothing to do
     idle_by : (core : List CoreOp) (h : ℕ) (a : Actor) (tree : Tree) → (a.taken ≡ None) ⊎ ((h == lowest (t.members old (old.places h))) ≡ false)
@@ -308,7 +326,7 @@ module _ (p : ℕ) (old : Tree) (acting : List acts.Acting) (actors : List Actor
         sym (at.same core ∙ skip_to core at.n p now (λ g low lt. none_acting given.in_round.round at.n g acting i at.ahead le low) at.most (omega arith) ∙ rest_none)
       where
         rest_none : all_changes (actings_of core actors) old (drop p (actings_of core actors)) now ≡ now
-        rest_none = ap (λ (rest : List (Acting Position)). all_changes (actings_of core actors) old rest now) (drop_past (actings_of core actors) p (let many = given.many in omega (arith, length-map (acting_of core) actors)))
+        rest_none = ap (λ (rest : List (Acting Position)). all_changes (actings_of core actors) old rest now) (drop_past (actings_of core actors) p (let many = given.many in let long : length (actings_of core actors) ≡ length actors = length-map {A = Actor} (acting_of core) actors in omega (arith, many, long)))
           where
             drop_past : {A : Type 0} (xs : List A) (n : ℕ) → length xs ≤ n → drop n xs ≡ []
             drop_past xs n le = drop_all n xs le

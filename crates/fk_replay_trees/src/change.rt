@@ -182,7 +182,7 @@ pub fn change_all(
     requires acting { acting.now ≡ all_acting (tree_of tree.old) (numbers_of acting.now) }
     requires own { AreOwn (runners_of actors.now) }
     requires can { CanChange (tree_of tree.old) actors.now }
-    requires given { (tree_of tree.old).given + 2 ^ 28 ≤ 2 ^ 63 }
+    requires given { (tree_of tree.old).given + 2 ^ 28 < 2 ^ 63 }
     // This holds whatever list the operations are from.
     ensures tree { (core : List code.CoreOp) → OnOk result (tree_of tree.new
         ≡ all_changes (actings_of core actors.now) (tree_of tree.old)
