@@ -326,7 +326,7 @@ module _ (p : ℕ) (old : Tree) (acting : List acts.Acting) (actors : List Actor
         sym (at.same core ∙ skip_to core at.n p now (λ g low lt. none_acting given.in_round.round at.n g acting i at.ahead le low) at.most (omega arith) ∙ rest_none)
       where
         rest_none : all_changes (actings_of core actors) old (drop p (actings_of core actors)) now ≡ now
-        rest_none = ap (λ (rest : List (Acting Position)). all_changes (actings_of core actors) old rest now) (drop_past (actings_of core actors) p (let many = given.many in let long : length (actings_of core actors) ≡ length actors = length-map {A = Actor} (acting_of core) actors in omega (arith, many, long)))
+        rest_none = ap (λ (rest : List (Acting Position)). all_changes (actings_of core actors) old rest now) (drop_past (actings_of core actors) p (let many = given.many in let long : length (actings_of core actors) ≡ length actors = length-map actors (acting_of core) in omega (arith, many, long)))
           where
             drop_past : {A : Type 0} (xs : List A) (n : ℕ) → length xs ≤ n → drop n xs ≡ []
             drop_past xs n le = drop_all n xs le

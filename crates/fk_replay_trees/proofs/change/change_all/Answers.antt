@@ -2,7 +2,7 @@ use Rattle.std.proofs.Common.{◌≡◌, ℕ, ◌+◌, ◌*◌, ◌^◌, ◌<◌
 use Rattle.fk_tree.specs.View.{tree_of, processors}
 use Rattle.fk_replay_phases.specs.declared.acting.Acting.{Acting}
 use Rattle.fk_replay_phases.proofs.Highest.{element}
-use Rattle.fk_replay_trees.proofs.Loop.{Given, next_below, there_is, taken_at, can_change}
+use Rattle.fk_replay_trees.proofs.Loop.{Given, next_below, there_is, taken_at, can_change, changes_end}
 use Rattle.fk_replay_trees.proofs.change.change_all.Goals as goal
 
 abbrev nobody : Acting
@@ -134,3 +134,31 @@ change-requires-clause-given c =
     let room = c.requires.given in
     let few = bound.1 in
     omega (arith, high, room, few)
+
+pub returns-clause-tree : goal.returns-clause-tree
+returns-clause-tree c =
+    let given : Given (processors c.args.tree.now) (tree_of c.args.tree.now) c.args.acting.now c.args.actors.now = record {
+      few = c.requires.few; sound = c.requires.sound; many = c.requires.many; in_round = c.requires.in_round; at_old = c.requires.acting; own = c.requires.own; can = c.requires.can
+    } in
+    let i = c.loop-member.member-index in
+    let now = tree_of c.loop-member.tree in
+    let at = c.loop-member.invariant.1 given in
+    let past = c.loop-member-test.false in
+    let within = c.loop-member.auto.member-index-end in
+    let le : length c.args.acting.now ≤ i = omega (arith, past) in
+    let ge : i ≤ length c.args.acting.now = omega (arith, within) in
+    λ core. changes_end (processors c.args.tree.now) (tree_of c.args.tree.now) c.args.acting.now c.args.actors.now given i now at le ge core
+
+pub returns-clause-given : goal.returns-clause-given
+returns-clause-given c =
+    let given : Given (processors c.args.tree.now) (tree_of c.args.tree.now) c.args.acting.now c.args.actors.now = record {
+      few = c.requires.few; sound = c.requires.sound; many = c.requires.many; in_round = c.requires.in_round; at_old = c.requires.acting; own = c.requires.own; can = c.requires.can
+    } in
+    let i = c.loop-member.member-index in
+    let now = tree_of c.loop-member.tree in
+    let at = c.loop-member.invariant.1 given in
+    let high = at.high in
+    let before = at.few in
+    let most = at.most in
+    let few = c.requires.few in
+    omega (arith, high, before, most, few)

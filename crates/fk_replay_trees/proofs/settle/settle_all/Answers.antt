@@ -17,7 +17,7 @@ node_of-requires c =
     let at = c.loop-member.invariant.1 c.requires.in_round in
     let lt : i < length c.args.acting.now = c.loop-member-test.true in
     let is = element c.args.acting.now i nobody lt in
-    let there = next_there c.args.acting.now c.args.actors.old.items c.requires.in_round i now x at lt is in
+    let there = next_there c.args.acting.now c.args.actors.now.items c.requires.in_round i now x at lt is in
     let bound = there.0 in
     let many = c.requires.many in
     omega (arith, bound, many)
