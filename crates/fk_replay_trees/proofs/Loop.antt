@@ -231,8 +231,10 @@ module _ (p : ℕ) (old : Tree) (acting : List acts.Acting) (actors : List Actor
         record {
           can = subst (λ (g : ℕ). CanStep now actors g due.operation) (sym node) (record {
             needs = needs_still due.operation p old now (old.places x.number) given.sound as_before step.needs;
-            divide = λ by e. record { same = λ h has.
-                (step.divide by e).same h (subst (λ (ms : List ℕ). is_member h ms ≡ true) members has) ∙ ap (λ (ms : List ℕ). parts by (values (has_of actors (lowest ms)))) (sym members) };
+            divide = λ by e. record {
+              same = λ h has.
+                  (step.divide by e).same h (subst (λ (ms : List ℕ). is_member h ms ≡ true) members has) ∙ ap (λ (ms : List ℕ). parts by (values (has_of actors (lowest ms)))) (sym members);
+            };
             few = λ by e. subst (λ (ms : List ℕ). parts by (values (has_of actors (lowest ms))) ≤ 2 ^ 18) (sym members) (step.few by e);
           });
           lowest_is = lowest_at ∙ ap lowest (sym members) ∙ ap (λ (g : ℕ). lowest (t.members now g)) (sym node);
@@ -261,7 +263,7 @@ module _ (p : ℕ) (old : Tree) (acting : List acts.Acting) (actors : List Actor
         let before_high = at.high in
         let root : due.operation ≡ o.Begin → x.node ≡ 0 = λ e. node ∙ root_of due.operation e step.needs in
         let numbers = gives_few due.operation x.node (has_of actors) (last (values (has_of actors x.highest))) x.lowest now
-            (λ by e. subst (λ (k : ℕ). parts by (values (has_of actors k)) ≤ 2 ^ 18) (sym lowest_at) (step.few by e)) in
+        (λ by e. subst (λ (k : ℕ). parts by (values (has_of actors k)) ≤ 2 ^ 18) (sym lowest_at) (step.few by e)) in
         let given_is : new.given ≡ (changes due.operation x.node (has_of actors) (last (values (has_of actors x.highest))) x.lowest now).given = ap (λ (y : Tree). y.given) made in
         let n_low = numbers.low in
         let n_high = numbers.high in
@@ -307,10 +309,10 @@ module _ (p : ℕ) (old : Tree) (acting : List acts.Acting) (actors : List Actor
             let highest_at : highest (t.members old (old.places x.number)) ≡ x.highest = ap (λ (y : acts.Acting). y.highest) (sym is_at) in
             ap (λ o. change_by (actings_of core actors) old x.number (option_map (step_at core (callers_of a.runner)) o) now) taken
             ∙ ap (λ (b : Bool). if b then changes due.operation (old.places x.number) (who (actings_of core actors)) (agreed (actings_of core actors) (t.members old (old.places x.number))) x.number now else now)
-                (eq_true x.number (lowest (t.members old (old.places x.number))) (lowest_it ∙ sym lowest_at))
+            (eq_true x.number (lowest (t.members old (old.places x.number))) (lowest_it ∙ sym lowest_at))
             ∙ change_who due.operation (old.places x.number) x.number now (who (actings_of core actors)) (has_of actors) (who_is core actors) (agreed (actings_of core actors) (t.members old (old.places x.number)))
             ∙ ap (λ (k : ℕ). changes due.operation (old.places x.number) (has_of actors) k x.number now)
-                (ap (λ (q : Processor). last (values q)) (who_is core actors (highest (t.members old (old.places x.number)))) ∙ ap (λ (k : ℕ). last (values (has_of actors k))) highest_at)
+            (ap (λ (q : Processor). last (values q)) (who_is core actors (highest (t.members old (old.places x.number)))) ∙ ap (λ (k : ℕ). last (values (has_of actors k))) highest_at)
             ∙ ap (λ (k : ℕ). changes due.operation (old.places x.number) (has_of actors) (last (values (has_of actors x.highest))) k now) lowest_it
             ∙ ap (λ (g : ℕ). changes due.operation g (has_of actors) (last (values (has_of actors x.highest))) x.lowest now) node
           where

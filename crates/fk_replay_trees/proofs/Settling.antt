@@ -160,12 +160,12 @@ module _ (p : ℕ) (core : List CoreOp) (old new : Tree) (acting : List acts.Act
         let lowest_at : x.lowest ≡ lowest (t.members old (old.places x.number)) = ap (λ (y : acts.Acting). y.lowest) is_at in
         let highest_at : x.highest ≡ highest (t.members old (old.places x.number)) = ap (λ (y : acts.Acting). y.highest) is_at in
         let above : x.number ≤ highest (t.members old (old.places x.number)) =
-            highest_above (t.members old (old.places x.number)) x.number (given.sound.ascending (old.places x.number)) (given.sound.placed x.number within).member in
+        highest_above (t.members old (old.places x.number)) x.number (given.sound.ascending (old.places x.number)) (given.sound.placed x.number within).member in
         let same_high : slice_get now x.highest ≡ slice_get before x.highest = at.so.rest x.highest (omega arith) in
         let value : high ≡ last (values (has_of before x.highest)) = high_is ∙ ap (λ o. last (values (has_by o))) same_high in
         let agreed_is : high ≡ agreed (actings_of core before) (t.members old (old.places x.number)) =
-            value ∙ ap (λ (k : ℕ). last (values (has_of before k))) highest_at
-            ∙ sym (ap (λ (q : Processor). last (values q)) (who_is core before (highest (t.members old (old.places x.number))))) in
+        value ∙ ap (λ (k : ℕ). last (values (has_of before k))) highest_at
+        ∙ sym (ap (λ (q : Processor). last (values q)) (who_is core before (highest (t.members old (old.places x.number))))) in
         let there : slice_get before x.number ≡ Some a = sym (at.so.rest x.number low) ∙ here in
         record {
           n = suc x.number;

@@ -65,12 +65,7 @@ fn stays_of(alloc: Global, members: &[u32], actors: &[Actor]) -> Result<Vec<bool
 }
 
 /// A `start` of the processors below the last value of the highest one.
-fn start(
-    alloc: Global,
-    acting: Acting,
-    actors: &[Actor],
-    tree: &mut Tree,
-) -> Result<(), AllocError>
+fn start(alloc: Global, acting: Acting, actors: &[Actor], tree: &mut Tree) -> Result<(), AllocError>
     requires idle { t.is_waiting (t.kind (tree_of tree.old) 0) ≡ false }
     requires root { acting.node ≡ 0 }
     requires highest { acting.highest < length actors.now }

@@ -11,7 +11,13 @@ nobody = record { number = 0; node = 0; lowest = 0; highest = 0 }
 pub bounds-actors-member : goal.bounds-actors-member
 bounds-actors-member c =
     let given : Given (processors c.args.tree.now) (tree_of c.args.tree.now) c.args.acting.now c.args.actors.now = record {
-      few = c.requires.few; sound = c.requires.sound; many = c.requires.many; in_round = c.requires.in_round; at_old = c.requires.acting; own = c.requires.own; can = c.requires.can
+      few = c.requires.few;
+      sound = c.requires.sound;
+      many = c.requires.many;
+      in_round = c.requires.in_round;
+      at_old = c.requires.acting;
+      own = c.requires.own;
+      can = c.requires.can;
     } in
     let i = c.loop-member.member-index in
     let now = tree_of c.loop-member.tree in
@@ -25,7 +31,13 @@ bounds-actors-member c =
 pub bounds : goal.bounds
 bounds c =
     let given : Given (processors c.args.tree.now) (tree_of c.args.tree.now) c.args.acting.now c.args.actors.now = record {
-      few = c.requires.few; sound = c.requires.sound; many = c.requires.many; in_round = c.requires.in_round; at_old = c.requires.acting; own = c.requires.own; can = c.requires.can
+      few = c.requires.few;
+      sound = c.requires.sound;
+      many = c.requires.many;
+      in_round = c.requires.in_round;
+      at_old = c.requires.acting;
+      own = c.requires.own;
+      can = c.requires.can;
     } in
     let i = c.loop-member.member-index in
     let now = tree_of c.loop-member.tree in
@@ -39,7 +51,13 @@ bounds c =
 pub bounds-actors-member-in-Some-1 : goal.bounds-actors-member-in-Some-1
 bounds-actors-member-in-Some-1 c =
     let given : Given (processors c.args.tree.now) (tree_of c.args.tree.now) c.args.acting.now c.args.actors.now = record {
-      few = c.requires.few; sound = c.requires.sound; many = c.requires.many; in_round = c.requires.in_round; at_old = c.requires.acting; own = c.requires.own; can = c.requires.can
+      few = c.requires.few;
+      sound = c.requires.sound;
+      many = c.requires.many;
+      in_round = c.requires.in_round;
+      at_old = c.requires.acting;
+      own = c.requires.own;
+      can = c.requires.can;
     } in
     let i = c.loop-member.member-index in
     let now = tree_of c.loop-member.tree in
@@ -53,7 +71,13 @@ bounds-actors-member-in-Some-1 c =
 pub change-requires-clause-can : goal.change-requires-clause-can
 change-requires-clause-can c =
     let given : Given (processors c.args.tree.now) (tree_of c.args.tree.now) c.args.acting.now c.args.actors.now = record {
-      few = c.requires.few; sound = c.requires.sound; many = c.requires.many; in_round = c.requires.in_round; at_old = c.requires.acting; own = c.requires.own; can = c.requires.can
+      few = c.requires.few;
+      sound = c.requires.sound;
+      many = c.requires.many;
+      in_round = c.requires.in_round;
+      at_old = c.requires.acting;
+      own = c.requires.own;
+      can = c.requires.can;
     } in
     let i = c.loop-member.member-index in
     let now = tree_of c.loop-member.tree in
@@ -70,7 +94,13 @@ change-requires-clause-can c =
 pub change-requires-clause-lowest : goal.change-requires-clause-lowest
 change-requires-clause-lowest c =
     let given : Given (processors c.args.tree.now) (tree_of c.args.tree.now) c.args.acting.now c.args.actors.now = record {
-      few = c.requires.few; sound = c.requires.sound; many = c.requires.many; in_round = c.requires.in_round; at_old = c.requires.acting; own = c.requires.own; can = c.requires.can
+      few = c.requires.few;
+      sound = c.requires.sound;
+      many = c.requires.many;
+      in_round = c.requires.in_round;
+      at_old = c.requires.acting;
+      own = c.requires.own;
+      can = c.requires.can;
     } in
     let i = c.loop-member.member-index in
     let now = tree_of c.loop-member.tree in
@@ -87,7 +117,13 @@ change-requires-clause-lowest c =
 pub change-requires-clause-low : goal.change-requires-clause-low
 change-requires-clause-low c =
     let given : Given (processors c.args.tree.now) (tree_of c.args.tree.now) c.args.acting.now c.args.actors.now = record {
-      few = c.requires.few; sound = c.requires.sound; many = c.requires.many; in_round = c.requires.in_round; at_old = c.requires.acting; own = c.requires.own; can = c.requires.can
+      few = c.requires.few;
+      sound = c.requires.sound;
+      many = c.requires.many;
+      in_round = c.requires.in_round;
+      at_old = c.requires.acting;
+      own = c.requires.own;
+      can = c.requires.can;
     } in
     let i = c.loop-member.member-index in
     let now = tree_of c.loop-member.tree in
@@ -104,7 +140,13 @@ change-requires-clause-low c =
 pub change-requires-clause-high : goal.change-requires-clause-high
 change-requires-clause-high c =
     let given : Given (processors c.args.tree.now) (tree_of c.args.tree.now) c.args.acting.now c.args.actors.now = record {
-      few = c.requires.few; sound = c.requires.sound; many = c.requires.many; in_round = c.requires.in_round; at_old = c.requires.acting; own = c.requires.own; can = c.requires.can
+      few = c.requires.few;
+      sound = c.requires.sound;
+      many = c.requires.many;
+      in_round = c.requires.in_round;
+      at_old = c.requires.acting;
+      own = c.requires.own;
+      can = c.requires.can;
     } in
     let i = c.loop-member.member-index in
     let now = tree_of c.loop-member.tree in
@@ -121,7 +163,13 @@ change-requires-clause-high c =
 pub change-requires-clause-given : goal.change-requires-clause-given
 change-requires-clause-given c =
     let given : Given (processors c.args.tree.now) (tree_of c.args.tree.now) c.args.acting.now c.args.actors.now = record {
-      few = c.requires.few; sound = c.requires.sound; many = c.requires.many; in_round = c.requires.in_round; at_old = c.requires.acting; own = c.requires.own; can = c.requires.can
+      few = c.requires.few;
+      sound = c.requires.sound;
+      many = c.requires.many;
+      in_round = c.requires.in_round;
+      at_old = c.requires.acting;
+      own = c.requires.own;
+      can = c.requires.can;
     } in
     let i = c.loop-member.member-index in
     let now = tree_of c.loop-member.tree in
@@ -138,7 +186,13 @@ change-requires-clause-given c =
 pub returns-clause-tree : goal.returns-clause-tree
 returns-clause-tree c =
     let given : Given (processors c.args.tree.now) (tree_of c.args.tree.now) c.args.acting.now c.args.actors.now = record {
-      few = c.requires.few; sound = c.requires.sound; many = c.requires.many; in_round = c.requires.in_round; at_old = c.requires.acting; own = c.requires.own; can = c.requires.can
+      few = c.requires.few;
+      sound = c.requires.sound;
+      many = c.requires.many;
+      in_round = c.requires.in_round;
+      at_old = c.requires.acting;
+      own = c.requires.own;
+      can = c.requires.can;
     } in
     let i = c.loop-member.member-index in
     let now = tree_of c.loop-member.tree in
@@ -152,7 +206,13 @@ returns-clause-tree c =
 pub returns-clause-given : goal.returns-clause-given
 returns-clause-given c =
     let given : Given (processors c.args.tree.now) (tree_of c.args.tree.now) c.args.acting.now c.args.actors.now = record {
-      few = c.requires.few; sound = c.requires.sound; many = c.requires.many; in_round = c.requires.in_round; at_old = c.requires.acting; own = c.requires.own; can = c.requires.can
+      few = c.requires.few;
+      sound = c.requires.sound;
+      many = c.requires.many;
+      in_round = c.requires.in_round;
+      at_old = c.requires.acting;
+      own = c.requires.own;
+      can = c.requires.can;
     } in
     let i = c.loop-member.member-index in
     let now = tree_of c.loop-member.tree in

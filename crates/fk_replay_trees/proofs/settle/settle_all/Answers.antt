@@ -49,7 +49,12 @@ returns c = record {
   settled = λ old sound at_old modes.
       let held = c.args.actors.now.ok.0 in
       let given : Given (vec_len c.args.actors.now) c.args.ops.now old (tree_of c.args.tree.now) c.args.acting.now c.args.actors.now.items = record {
-        sound = sound; many = omega (arith, held); in_round = c.requires.in_round; at_old = at_old; own = c.requires.own; modes = modes
+        sound = sound;
+        many = omega (arith, held);
+        in_round = c.requires.in_round;
+        at_old = at_old;
+        own = c.requires.own;
+        modes = modes;
       } in
       let i = c.loop-member.member-index in
       let past = c.loop-member-test.false in
