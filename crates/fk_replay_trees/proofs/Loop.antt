@@ -1,8 +1,9 @@
 -- The lowest members bring the steps of their nodes to the tree, one after the other.
-use Rattle.std.proofs.Common.{◌≡◌, ◌≢◌, ℕ, zero, suc, ◌+◌, ◌-◌, ◌*◌, ◌^◌, ◌<◌, ◌≤◌, Bool, true, false, ◌⊎◌, inl, inr, List, [], ◌∷◌, length, get_or, drop, map, Option, Some, None, ap, refl, sym, ◌∙◌, subst, arith}
+use Rattle.std.proofs.Common.{◌≡◌, ◌≢◌, ℕ, zero, suc, ◌+◌, ◌-◌, ◌*◌, ◌^◌, ◌<◌, ◌≤◌, Bool, true, false, ◌||◌, ◌⊎◌, inl, inr, List, [], ◌∷◌, length, get_or, drop, map, Option, Some, None, ap, refl, sym, ◌∙◌, subst, arith}
 use Rattle.std.specs.Prelude.{◌==◌, slice_index, slice_get, if◌then◌else◌, option_map}
 use Rattle.std.proofs.Math.Path.{fun_ext}
 use Rattle.std.proofs.lemmas.List.{drop_all, length-map}
+use Rattle.std.proofs.lemmas.Option.{get_or_from_slice_get}
 use Rattle.fk_tree.specs.Tree as t
 use Rattle.fk_tree.specs.Tree.{Tree, is_member}
 use Rattle.fk_tree.specs.Sound.{IsSound, Has}
@@ -38,7 +39,7 @@ drop_get [] n x e = absurd (let bad : None ≡ Some x = e in cc)
 drop_get (y ∷ ys) zero x e = let same : y ≡ x = cc in ap (λ z. z ∷ ys) same
 drop_get (y ∷ ys) (suc n) x e = drop_get ys n x e
 
-there_is : {A : Type 0} (xs : List A) (n : ℕ) → n < length xs → (x : A) × (slice_get xs n ≡ Some x)
+pub there_is : {A : Type 0} (xs : List A) (n : ℕ) → n < length xs → (x : A) × (slice_get xs n ≡ Some x)
 there_is [] n lt = absurd (let z : ⊥ = omega arith in z)
 there_is (x ∷ xs) zero lt = (x, refl)
 there_is (x ∷ xs) (suc n) lt = there_is xs n (omega arith)
@@ -132,6 +133,23 @@ module _ (p : ℕ) (old : Tree) (acting : List acts.Acting) (actors : List Actor
     element : (i : ℕ) (x : acts.Acting) → i < length acting → x ≡ get_or acting i x → x ≡ acting_at old x.number
     element i x lt is = element_of acting i x (acting_at old) given.at_old lt is
 
+    -- a member that comes next is a processor, and few came before it
+    pub next_below : (i : ℕ) (now : Tree) (x : acts.Acting) → ChangesAt i now → i < length acting → x ≡ get_or acting i x → (x.number < length actors) × (i < 1024)
+    next_below i now x at lt is =
+        let ahead = next_acting given.in_round.round at.n acting i x at.ahead lt is in
+        let next = ahead.next.1 in
+        let high = next.high in
+        let low = next.low in
+        let all = given.in_round.many in
+        let many = given.many in
+        let before = at.few in
+        let few = given.few in
+        (omega (arith, high, all), omega (arith, high, low, all, many, before, few))
+
+    -- what is taken by the actor that is there
+    pub taken_at : (h : ℕ) (other a : Actor) (due : Due) → slice_get actors h ≡ Some a → (get_or actors h other).taken ≡ Some due → a.taken ≡ Some due
+    taken_at h other a due here taken = sym (ap (λ (x : Actor). x.taken) (get_or_from_slice_get actors h a other here)) ∙ taken
+
     -- nothing is changed by a member that isn't the lowest, or has nothing to do
     idle_by : (core : List CoreOp) (h : ℕ) (a : Actor) (tree : Tree) → (a.taken ≡ None) ⊎ ((h == lowest (t.members old (old.places h))) ≡ false)
         → change_by (actings_of core actors) old h (due_of core a) tree ≡ tree
@@ -213,8 +231,10 @@ module _ (p : ℕ) (old : Tree) (acting : List acts.Acting) (actors : List Actor
         record {
           can = subst (λ (g : ℕ). CanStep now actors g due.operation) (sym node) (record {
             needs = needs_still due.operation p old now (old.places x.number) given.sound as_before step.needs;
-            divide = λ by e. record { same = λ h has.
-                (step.divide by e).same h (subst (λ (ms : List ℕ). is_member h ms ≡ true) members has) ∙ ap (λ (ms : List ℕ). parts by (values (has_of actors (lowest ms)))) (sym members) };
+            divide = λ by e. record {
+              same = λ h has.
+                  (step.divide by e).same h (subst (λ (ms : List ℕ). is_member h ms ≡ true) members has) ∙ ap (λ (ms : List ℕ). parts by (values (has_of actors (lowest ms)))) (sym members);
+            };
             few = λ by e. subst (λ (ms : List ℕ). parts by (values (has_of actors (lowest ms))) ≤ 2 ^ 18) (sym members) (step.few by e);
           });
           lowest_is = lowest_at ∙ ap lowest (sym members) ∙ ap (λ (g : ℕ). lowest (t.members now g)) (sym node);
@@ -243,7 +263,7 @@ module _ (p : ℕ) (old : Tree) (acting : List acts.Acting) (actors : List Actor
         let before_high = at.high in
         let root : due.operation ≡ o.Begin → x.node ≡ 0 = λ e. node ∙ root_of due.operation e step.needs in
         let numbers = gives_few due.operation x.node (has_of actors) (last (values (has_of actors x.highest))) x.lowest now
-            (λ by e. subst (λ (k : ℕ). parts by (values (has_of actors k)) ≤ 2 ^ 18) (sym lowest_at) (step.few by e)) in
+        (λ by e. subst (λ (k : ℕ). parts by (values (has_of actors k)) ≤ 2 ^ 18) (sym lowest_at) (step.few by e)) in
         let given_is : new.given ≡ (changes due.operation x.node (has_of actors) (last (values (has_of actors x.highest))) x.lowest now).given = ap (λ (y : Tree). y.given) made in
         let n_low = numbers.low in
         let n_high = numbers.high in
@@ -289,10 +309,10 @@ module _ (p : ℕ) (old : Tree) (acting : List acts.Acting) (actors : List Actor
             let highest_at : highest (t.members old (old.places x.number)) ≡ x.highest = ap (λ (y : acts.Acting). y.highest) (sym is_at) in
             ap (λ o. change_by (actings_of core actors) old x.number (option_map (step_at core (callers_of a.runner)) o) now) taken
             ∙ ap (λ (b : Bool). if b then changes due.operation (old.places x.number) (who (actings_of core actors)) (agreed (actings_of core actors) (t.members old (old.places x.number))) x.number now else now)
-                (eq_true x.number (lowest (t.members old (old.places x.number))) (lowest_it ∙ sym lowest_at))
+            (eq_true x.number (lowest (t.members old (old.places x.number))) (lowest_it ∙ sym lowest_at))
             ∙ change_who due.operation (old.places x.number) x.number now (who (actings_of core actors)) (has_of actors) (who_is core actors) (agreed (actings_of core actors) (t.members old (old.places x.number)))
             ∙ ap (λ (k : ℕ). changes due.operation (old.places x.number) (has_of actors) k x.number now)
-                (ap (λ (q : Processor). last (values q)) (who_is core actors (highest (t.members old (old.places x.number)))) ∙ ap (λ (k : ℕ). last (values (has_of actors k))) highest_at)
+            (ap (λ (q : Processor). last (values q)) (who_is core actors (highest (t.members old (old.places x.number)))) ∙ ap (λ (k : ℕ). last (values (has_of actors k))) highest_at)
             ∙ ap (λ (k : ℕ). changes due.operation (old.places x.number) (has_of actors) (last (values (has_of actors x.highest))) k now) lowest_it
             ∙ ap (λ (g : ℕ). changes due.operation g (has_of actors) (last (values (has_of actors x.highest))) x.lowest now) node
           where
@@ -308,7 +328,7 @@ module _ (p : ℕ) (old : Tree) (acting : List acts.Acting) (actors : List Actor
         sym (at.same core ∙ skip_to core at.n p now (λ g low lt. none_acting given.in_round.round at.n g acting i at.ahead le low) at.most (omega arith) ∙ rest_none)
       where
         rest_none : all_changes (actings_of core actors) old (drop p (actings_of core actors)) now ≡ now
-        rest_none = ap (λ (rest : List (Acting Position)). all_changes (actings_of core actors) old rest now) (drop_past (actings_of core actors) p (let many = given.many in omega (arith, length-map (acting_of core) actors)))
+        rest_none = ap (λ (rest : List (Acting Position)). all_changes (actings_of core actors) old rest now) (drop_past (actings_of core actors) p (let many = given.many in let long : length (actings_of core actors) ≡ length actors = length-map actors (acting_of core) in omega (arith, many, long)))
           where
             drop_past : {A : Type 0} (xs : List A) (n : ℕ) → length xs ≤ n → drop n xs ≡ []
             drop_past xs n le = drop_all n xs le

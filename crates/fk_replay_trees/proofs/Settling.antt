@@ -1,6 +1,8 @@
 -- The members of nodes do their own parts of steps, one after the other.
 use Rattle.std.proofs.Common.{◌≡◌, ℕ, zero, suc, ◌+◌, ◌<◌, ◌≤◌, Bool, true, false, ◌⊎◌, inl, inr, List, [], ◌∷◌, length, get_or, set, drop, map, Option, Some, None, ap, refl, sym, ◌∙◌, subst, arith}
 use Rattle.std.specs.Prelude.{◌==◌, nat_lt, ◌&&◌, ◌||◌, slice_index, slice_get, option_map}
+use Rattle.std.proofs.lemmas.Bool.{eqb-true, eq-eqb}
+use Rattle.std.proofs.lemmas.List.{length-set}
 use Rattle.fk_tree.specs.Tree as t
 use Rattle.fk_tree.specs.Tree.{Tree, is_member}
 use Rattle.fk_tree.specs.Sound.{IsSound, Has, is_ascending, is_below_all}
@@ -19,10 +21,43 @@ use Rattle.fk_replay_phases.specs.Present.{present, numbers_of, acting_at}
 use Rattle.fk_replay_phases.specs.Actors.{acting_of, actings_of, due_of, runners_of, AreInRound, HaveNone}
 use Rattle.fk_replay_phases.specs.Modes.{HaveModes}
 use Rattle.fk_replay_phases.proofs.Present.{IsNext, IsNextActing, next_acting, none_acting}
-use Rattle.fk_replay_phases.proofs.Sparse.{SoFar, begun, more, at_end}
+use Rattle.fk_replay_phases.proofs.Sparse.{SoFar, begun, more, at_end, get_set_other}
 use Rattle.fk_replay_trees.specs.Changes.{has_of, has_by, agreed_by, mode_as, settled_mode, ModesFollow}
 use Rattle.fk_replay_trees.specs.Settled.{settled_as, HasSettled, HaveSettled}
 use Rattle.fk_replay_trees.proofs.Loop.{who_is, get_map, element_of}
+
+-- who comes next, while all who come later are as before
+module _ (acting : List acts.Acting) (before : List Actor) (in_round : AreInRound acting before) where
+  pub record ComesNext (i : ℕ) (now : List Actor) : Type 0 where
+    pub n : ℕ
+    pub ahead : present n (drop n in_round.round) ≡ numbers_of (drop i acting)
+    pub many : length now ≡ length before
+    pub rest : (h : ℕ) → n ≤ h → slice_get now h ≡ slice_get before h
+
+  pub comes_first : ComesNext 0 before
+  comes_first = record { n = 0; ahead = sym in_round.numbers; many = refl; rest = λ h le. refl }
+
+  pub next_there : (i : ℕ) (now : List Actor) (x : acts.Acting) → ComesNext i now → i < length acting → x ≡ get_or acting i x
+      → (x.number < length before) × (slice_get now x.number ≡ slice_get before x.number)
+  next_there i now x at lt is =
+      let ahead = next_acting in_round.round at.n acting i x at.ahead lt is in
+      let next = ahead.next.1 in
+      let high = next.high in
+      let all = in_round.many in
+      (omega (arith, high, all), at.rest x.number next.low)
+
+  pub comes_more : (i : ℕ) (now : List Actor) (x : acts.Acting) (to : Actor) → ComesNext i now → i < length acting → x ≡ get_or acting i x
+      → ComesNext (i + 1) (set now x.number to)
+  comes_more i now x to at lt is =
+      let ahead = next_acting in_round.round at.n acting i x at.ahead lt is in
+      let next = ahead.next.1 in
+      let low = next.low in
+      record {
+        n = suc x.number;
+        ahead = ahead.rest;
+        many = length-set now x.number to ∙ at.many;
+        rest = λ h le. get_set_other now x.number h to (λ same. absurd (omega (arith, same, le))) ∙ at.rest h (omega (arith, low, le));
+      }
 
 module _ (p : ℕ) (core : List CoreOp) (old new : Tree) (acting : List acts.Acting) (before : List Actor) where
   pub record Given : Type 0 where
@@ -98,11 +133,11 @@ module _ (p : ℕ) (core : List CoreOp) (old new : Tree) (acting : List acts.Act
             lt_of a b e = grind arith
 
         self : (a : ℕ) (as' : List ℕ) → is_member a (a ∷ as') ≡ true
-        self a as' = grind arith
+        self a as' = ap (λ (b : Bool). b || is_member a as') (eq-eqb a a refl)
 
         by : (b : Bool) → (h == m) ≡ b → ((g : ℕ) → is_member g (k ∷ ms) ≡ true → is_ascending (k ∷ ms) ≡ true → g ≤ highest (k ∷ ms)) → h ≤ highest (k ∷ ms)
         by true e more =
-            let same : h ≡ m = grind arith in
+            let same : h ≡ m = eqb-true h m e in
             let above : k ≤ highest (k ∷ ms) = more k (self k ms) parts.1 in
             let lt = less in
             omega arith
@@ -125,12 +160,12 @@ module _ (p : ℕ) (core : List CoreOp) (old new : Tree) (acting : List acts.Act
         let lowest_at : x.lowest ≡ lowest (t.members old (old.places x.number)) = ap (λ (y : acts.Acting). y.lowest) is_at in
         let highest_at : x.highest ≡ highest (t.members old (old.places x.number)) = ap (λ (y : acts.Acting). y.highest) is_at in
         let above : x.number ≤ highest (t.members old (old.places x.number)) =
-            highest_above (t.members old (old.places x.number)) x.number (given.sound.ascending (old.places x.number)) (given.sound.placed x.number within).member in
+        highest_above (t.members old (old.places x.number)) x.number (given.sound.ascending (old.places x.number)) (given.sound.placed x.number within).member in
         let same_high : slice_get now x.highest ≡ slice_get before x.highest = at.so.rest x.highest (omega arith) in
         let value : high ≡ last (values (has_of before x.highest)) = high_is ∙ ap (λ o. last (values (has_by o))) same_high in
         let agreed_is : high ≡ agreed (actings_of core before) (t.members old (old.places x.number)) =
-            value ∙ ap (λ (k : ℕ). last (values (has_of before k))) highest_at
-            ∙ sym (ap (λ (q : Processor). last (values q)) (who_is core before (highest (t.members old (old.places x.number))))) in
+        value ∙ ap (λ (k : ℕ). last (values (has_of before k))) highest_at
+        ∙ sym (ap (λ (q : Processor). last (values q)) (who_is core before (highest (t.members old (old.places x.number))))) in
         let there : slice_get before x.number ≡ Some a = sym (at.so.rest x.number low) ∙ here in
         record {
           n = suc x.number;

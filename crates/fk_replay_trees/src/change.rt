@@ -65,12 +65,7 @@ fn stays_of(alloc: Global, members: &[u32], actors: &[Actor]) -> Result<Vec<bool
 }
 
 /// A `start` of the processors below the last value of the highest one.
-fn start(
-    alloc: Global,
-    acting: Acting,
-    actors: &[Actor],
-    tree: &mut Tree,
-) -> Result<(), AllocError>
+fn start(alloc: Global, acting: Acting, actors: &[Actor], tree: &mut Tree) -> Result<(), AllocError>
     requires idle { t.is_waiting (t.kind (tree_of tree.old) 0) ≡ false }
     requires root { acting.node ≡ 0 }
     requires highest { acting.highest < length actors.now }
@@ -182,7 +177,7 @@ pub fn change_all(
     requires acting { acting.now ≡ all_acting (tree_of tree.old) (numbers_of acting.now) }
     requires own { AreOwn (runners_of actors.now) }
     requires can { CanChange (tree_of tree.old) actors.now }
-    requires given { (tree_of tree.old).given + 2 ^ 28 ≤ 2 ^ 63 }
+    requires given { (tree_of tree.old).given + 2 ^ 28 < 2 ^ 63 }
     // This holds whatever list the operations are from.
     ensures tree { (core : List code.CoreOp) → OnOk result (tree_of tree.new
         ≡ all_changes (actings_of core actors.now) (tree_of tree.old)

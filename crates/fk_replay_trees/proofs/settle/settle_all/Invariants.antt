@@ -2,11 +2,13 @@
 use Rattle.std.proofs.Common.{◌≡◌, vec_len}
 use Rattle.fk_tree.specs.Tree.{Tree}
 use Rattle.fk_tree.specs.View.{tree_of}
-use Rattle.fk_replay_trees.proofs.Settling.{Given, SettlesAt}
+use Rattle.fk_replay_phases.specs.Actors.{AreInRound}
+use Rattle.fk_replay_trees.proofs.Settling.{ComesNext, Given, SettlesAt}
 use Rattle.fk_replay_trees.proofs.settle.settle_all.Given as goal
 
 abbrev pub invariant-loop-member : goal.invariant-loop-member
 invariant-loop-member l =
     (vec_len l.actors ≡ vec_len l.initial.actors)
+    × ((in_round : AreInRound l.acting l.initial.actors.items) → ComesNext l.acting l.initial.actors.items in_round l.member-index l.actors.items)
     × ((old : Tree) (given : Given (vec_len l.initial.actors) l.ops old (tree_of l.tree) l.acting l.initial.actors.items)
     → SettlesAt (vec_len l.initial.actors) l.ops old (tree_of l.tree) l.acting l.initial.actors.items given l.member-index l.actors.items)
