@@ -1,4 +1,3 @@
-pub mod Lawful
 pub mod Ranges
 pub mod Last
 pub mod Known

@@ -1,5 +1,3 @@
-pub mod Answers
-pub mod Laws
 pub mod Ranges
 pub mod Steady
 pub mod Taken

@@ -12,7 +12,7 @@ use Rattle.fk_core.proofs.KeepsRuns.{flat_lists_keep_runs}
 use Rattle.fk_replay_text.specs.declared.fault.ReplayFault.{ReplayFault}
 use Rattle.fk_replay_text.specs.declared.fault.ReplayFault.TheVariants.{BadTrace, NotPossible, Pace, Memory}
 use Rattle.fk_replay.specs.declared.end.Replayed.{Replayed}
-use Rattle.fk_replay.specs.Answers.{IsBad, IsGoodBehind, IsLate, IsNotPossible, IsPassedOver}
+use Rattle.fk_replay_schedules.specs.Answers.{IsBad, IsGoodBehind, IsLate, IsNotPossible, IsPassedOver}
 use Rattle.fk_replay.specs.Replay.{IsAnswer}
 use Rattle.fk_replay_source.specs.Alike.{AllowAlike}
 use Rattle.fk_replay_source.specs.Answer.{Answers}

@@ -4,8 +4,8 @@ use Rattle.std.specs.Prelude.{slice_get, slice_index}
 use Rattle.fk_meaning.specs.Processor.{Setting}
 use Rattle.fk_meaning.specs.Round.{Step, State, Round, result, is_possible, IsStopped}
 use Rattle.fk_meaning.specs.Schedule.{Schedule, ArePossible, CouldAct, IsIn, IsLawful, KeepsPace, run}
-use Rattle.fk_replay.specs.Answers.{after, IsBad, IsGoodBehind, IsLate}
-use Rattle.fk_replay.specs.Laws.{GoodSchedulesAreLawful, HasNoFault, LawfulSchedulesHaveNoFault}
+use Rattle.fk_replay_schedules.specs.Answers.{after, IsBad, IsGoodBehind, IsLate}
+use Rattle.fk_replay_schedules.specs.Laws.{GoodSchedulesAreLawful, HasNoFault, LawfulSchedulesHaveNoFault}
 
 module _ {W : Type 0} (next : W → Option (Step W)) (setting : Setting) where
   abbrev Good : Schedule → State W → Type 0
