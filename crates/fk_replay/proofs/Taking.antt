@@ -17,7 +17,7 @@ use Rattle.fk_replay_rounds.specs.Fits.{all_fit_below}
 use Rattle.fk_replay_rounds.specs.Stops.{joint_up_to, FaultsLast, StopsTell}
 use Rattle.fk_replay_phases.specs.declared.phases.Fault as code
 use Rattle.fk_replay_phases.specs.declared.actor.Actor.{Actor}
-use Rattle.fk_replay_phases.specs.Present.{AreNone}
+use Rattle.fk_replay_phases.specs.Present.{AreNone, present, numbers_of}
 use Rattle.fk_replay_phases.specs.Actors.{actings_of, runners_of, fault_of, HaveNone}
 use Rattle.fk_replay_phases.specs.Joints.{joint_at}
 use Rattle.fk_replay_phases.specs.Modes.{HaveModes}
@@ -41,6 +41,8 @@ module _ (core : List CoreOp) (round : Round) (old : Run) where
     pub tree : processors new.tree ≡ processors old.tree
     pub actors : vec_len new.actors ≡ vec_len old.actors
     pub counts : AreNone (processors old.tree) new.counts.items
+    pub pace : new.pace ≡ old.pace
+    pub numbers : numbers_of new.acting.items ≡ present 0 round
     pub given : (tree_of new.tree).given ≤ (tree_of old.tree).given + 2 ^ 28
 
   pub is_done : (new : Run) (after : List Actor) → IsRun old → IsSteady core (setting_of old.setting) (state_of old)
@@ -62,6 +64,9 @@ module _ (core : List CoreOp) (round : Round) (old : Run) where
       own = subst (λ (x : State Position). AreOwn x.runners) (sym state) (keep (next core) (setting_of old.setting) round (state_of old) run.own).after;
     };
     same = sizes.same;
+    tree = sizes.tree;
+    pace = sizes.pace;
+    numbers = sizes.numbers;
     given = sizes.given;
   }
     where
@@ -81,8 +86,8 @@ module _ (core : List CoreOp) (round : Round) (old : Run) where
   pub is_stopped : (new : Run) (after : List Actor) (fault : code.Fault) → IsSteady core (setting_of old.setting) (state_of old) → length round ≡ length (runners_of old.actors.items)
       → Asked core (setting_of old.setting) round (state_of old) after (store_of new.store) (Some fault) → ((h : ℕ) → fault.processor < h → slice_index round h ≡ 0)
       → all_fit_below round fault.processor (joint_at core after fault.processor) (tree_of old.tree) 0 round ≡ true
-      → StopsTell (next core) (setting_of old.setting) round (state_of old) → IsStoppedBy core round old new fault
-  is_stopped new after fault steady many asks last fits tells = record {
+      → StopsTell (next core) (setting_of old.setting) round (state_of old) → new.pace ≡ old.pace → numbers_of new.acting.items ≡ present 0 round → IsStoppedBy core round old new fault
+  is_stopped new after fault steady many asks last fits tells pace numbers = record {
     stopped = tells.there (fault_of core fault) (record {
       may = asks.may;
       faults = fault_is after (store_of new.store) fault asks;
@@ -91,6 +96,8 @@ module _ (core : List CoreOp) (round : Round) (old : Run) where
     });
     fault = fault_is after (store_of new.store) fault asks;
     store = sym (ap (λ (x : State Position). x.store) (result_is core (setting_of old.setting) round (state_of old) after (store_of new.store) (Some fault) asks));
+    pace = pace;
+    numbers = numbers;
   }
 
   pub is_neither_begun : (new : Run) → rounds.all_may_act (next core) (setting_of old.setting) round (runners_of old.actors.items) ≡ false → StopsTell (next core) (setting_of old.setting) round (state_of old) → IsNeither core round old new

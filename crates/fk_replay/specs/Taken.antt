@@ -8,7 +8,7 @@ use Rattle.fk_meaning.specs.Round.{State, Round, result, is_possible, IsStopped}
 use Rattle.fk_core.specs.declared.op.CoreOp.{CoreOp}
 use Rattle.fk_core.specs.Next.{Position, next}
 use Rattle.fk_replay_rounds.specs.Own.{AreOwn}
-use Rattle.fk_replay_phases.specs.Present.{AreNone}
+use Rattle.fk_replay_phases.specs.Present.{AreNone, present, numbers_of}
 use Rattle.fk_replay_phases.specs.Actors.{HaveNone, runners_of, fault_of}
 use Rattle.fk_replay_phases.specs.Modes.{HaveModes}
 use Rattle.fk_replay_phases.specs.declared.phases.Fault.{Fault}
@@ -46,6 +46,9 @@ module _ (core : List CoreOp) (round : Round) (old new : Run) where
     pub state : state_of new ≡ result (next core) set_in round (state_of old)
     pub run : IsRun new
     pub same : new.setting ≡ old.setting
+    pub tree : processors new.tree ≡ processors old.tree
+    pub pace : new.pace ≡ old.pace
+    pub numbers : numbers_of new.acting.items ≡ present 0 round
     pub given : (tree_of new.tree).given ≤ (tree_of old.tree).given + 2 ^ 28
 
   -- the round is stopped by a fault, and the store is as it left it
@@ -53,6 +56,8 @@ module _ (core : List CoreOp) (round : Round) (old new : Run) where
     pub stopped : IsStopped (next core) set_in round (state_of old)
     pub fault : (result (next core) set_in round (state_of old)).fault ≡ Some (fault_of core fault)
     pub store : store_of new.store ≡ (result (next core) set_in round (state_of old)).store
+    pub pace : new.pace ≡ old.pace
+    pub numbers : numbers_of new.acting.items ≡ present 0 round
 
   pub record IsNeither : Type 0 where
     pub impossible : is_possible (next core) set_in round (state_of old) ≡ true → ⊥

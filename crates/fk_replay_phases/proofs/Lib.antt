@@ -1,6 +1,9 @@
 pub mod Present
 pub mod Sparse
 pub mod Begins
+pub mod Starts
 pub mod Requests
+pub mod Asking
 pub mod Fitting
-pub mod Dismiss
+pub mod Emptied
+pub mod Highest

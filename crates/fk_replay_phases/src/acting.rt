@@ -27,12 +27,14 @@ fn first_of(numbers: &[u32]) -> u32
 }
 
 /// The last of some numbers, or 0.
+#[tactic(auto, using(crate::proofs::Highest::last_one, crate::proofs::Highest::none))]
 fn last_of(numbers: &[u32]) -> u32
     ensures { result ≡ highest numbers.now }
 {
-    match numbers.last() {
-        Some(number) => *number,
-        None => 0,
+    if numbers.is_empty() {
+        0
+    } else {
+        numbers[numbers.len() - 1]
     }
 }
 

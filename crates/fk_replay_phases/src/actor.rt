@@ -54,7 +54,8 @@ fn do_locals(
         (HasDoneLocals ops.now (setting_of setting) count runner.old runner.new) }
 {
     for done in 0..count {
-        if !do_one(setting, ops, runner)? {
+        let did = do_one(setting, ops, runner)?;
+        if !did {
             return Ok(false);
         }
     }
@@ -76,16 +77,17 @@ pub fn begin(
     requires safe { IsSafeRunner ops.now (setting_of setting) (runner_of actor.old.runner) }
     ensures begun { IfOk result (HasBegun ops.now (setting_of setting) count actor.old actor.new) }
 {
-    if !do_locals(setting, ops, count - 1, &mut actor.runner)? {
+    let did = do_locals(setting, ops, count - 1, &mut actor.runner)?;
+    if !did {
         return Ok(false);
     }
     let Some(due) = actor.runner.due(ops) else {
         return Ok(false);
     };
     if class_of(due.operation) == Class::Local {
-        do_one(setting, ops, &mut actor.runner)?;
-    } else {
-        actor.taken = Some(due);
+        let last = do_one(setting, ops, &mut actor.runner)?;
+        return Ok(last);
     }
+    actor.taken = Some(due);
     Ok(true)
 }

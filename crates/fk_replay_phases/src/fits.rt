@@ -4,6 +4,7 @@
 
 ghost use Rattle.std.specs.Prelude.{◌≡◌, ℕ, ◌<◌, ◌≤◌, length};
 ghost use Rattle.fk_tree.specs.Tree as t;
+ghost use Rattle.fk_tree.specs.Sound.{IsSound};
 ghost use Rattle.fk_tree.specs.View.{tree_of, processors};
 ghost use Rattle.fk_replay_rounds.specs.Modes.{mode_of};
 ghost use Rattle.fk_replay_rounds.specs.Fits.{one_joins, all_join, all_have, joins_lowest};
@@ -78,6 +79,7 @@ fn all_have(counts: &[u32], last: u32, count: u32, members: &[u32]) -> bool
 
 /// Whether a member of a group fits to its lowest member, and the lowest member to all.
 fn fits_group(tree: &Tree, counts: &[u32], last: u32, acting: Acting) -> bool
+    requires sound { IsSound (processors tree.now) (tree_of tree.now) }
     requires counts { length counts.now ≡ processors tree.now }
     requires number { acting.number < processors tree.now }
     requires acting { acting ≡ acting_at (tree_of tree.now) acting.number }
@@ -104,6 +106,7 @@ fn joins_lowest(
     joint: Joint,
     acting: Acting,
 ) -> bool
+    requires sound { IsSound (processors tree.now) (tree_of tree.now) }
     requires counts { length counts.now ≡ processors tree.now }
     requires actors { length actors.now ≡ processors tree.now }
     requires number { acting.number < processors tree.now }
@@ -129,6 +132,7 @@ fn fits_apart(
     is_alone: bool,
     acting: Acting,
 ) -> bool
+    requires sound { IsSound (processors tree.now) (tree_of tree.now) }
     requires counts { length counts.now ≡ processors tree.now }
     requires actors { length actors.now ≡ processors tree.now }
     requires number { acting.number < processors tree.now }
@@ -160,6 +164,7 @@ fn fits(
     last: u32,
     acting: Acting,
 ) -> bool
+    requires sound { IsSound (processors tree.now) (tree_of tree.now) }
     requires counts { length counts.now ≡ processors tree.now }
     requires actors { length actors.now ≡ processors tree.now }
     requires number { acting.number < processors tree.now }

@@ -45,7 +45,8 @@ pub fn begin_all(
 {
     for member in acting {
         let number = member.number as usize;
-        if !begin(setting, ops, counts[number], &mut actors[number])? {
+        let can = begin(setting, ops, counts[number], &mut actors[number])?;
+        if !can {
             return Ok(false);
         }
     }
@@ -71,7 +72,8 @@ pub fn do_requests(
 {
     for member in acting {
         let number = member.number as usize;
-        if let Some(site) = ask(alloc, ops, store, &mut actors[number])? {
+        let fault = ask(alloc, ops, store, &mut actors[number])?;
+        if let Some(site) = fault {
             let processor = member.number;
             return Ok(Some(Fault { site, processor }));
         }
@@ -98,14 +100,17 @@ fn ask(
         return Ok(None);
     };
     if class_of(due.operation) == Class::Tree {
-        let fits = has_room(due.operation, &actor.runner.processor);
-        return Ok(if fits { None } else { Some(due.site) });
-    }
-    let processor = &mut actor.runner.processor;
-    if do_request(alloc, store, due.operation, processor)?.is_err() {
+        if has_room(due.operation, &actor.runner.processor) {
+            return Ok(None);
+        }
         return Ok(Some(due.site));
     }
-    actor.runner.pass(ops, due, true)?;
-    actor.taken = None;
-    Ok(None)
+    match do_request(alloc, store, due.operation, &mut actor.runner.processor)? {
+        Ok(()) => {
+            actor.runner.pass(ops, due, true)?;
+            actor.taken = None;
+            Ok(None)
+        }
+        Err(_) => Ok(Some(due.site)),
+    }
 }

@@ -1,5 +1,5 @@
 -- The counts of those so far are removed.
-use Rattle.fk_replay_phases.proofs.Dismiss.{DismissesAt}
+use Rattle.fk_replay_phases.proofs.Emptied.{DismissesAt}
 use Rattle.fk_replay_phases.proofs.acting.dismiss.Given as goal
 
 abbrev pub invariant-loop-member : goal.invariant-loop-member

@@ -1,8 +1,15 @@
 -- One operation after the other.
-use Rattle.std.proofs.Common.{◌≡◌, ℕ, suc, ◌+◌, ◌-◌, refl, sym, subst, ap, arith}
 use Rattle.fk_meaning_state.specs.View.{setting_of}
-use Rattle.fk_replay_phases.proofs.Begins.{DoesLocals, does_first, does_one, does_none, does_all}
+use Rattle.std.proofs.Common.{◌<◌, ◌≤◌, arith}
+use Rattle.fk_replay_phases.proofs.Starts.{starts, goes_on, breaks_off, ends}
 use Rattle.fk_replay_phases.proofs.actor.do_locals.Goals as goal
 
 pub do_one-requires-clause-safe : goal.do_one-requires-clause-safe
 do_one-requires-clause-safe c = c.loop-done.invariant.safe
+
+pub loop-done-init : goal.loop-done-init
+loop-done-init c = starts c.args.ops.now (setting_of c.args.setting) c.args.count c.args.runner.now c.requires.safe
+
+pub loop-done-preserved : goal.loop-done-preserved
+loop-done-preserved c =
+    goes_on c.args.ops.now (setting_of c.args.setting) c.args.count c.loop-done.done c.args.runner.now c.loop-done.runner c.do_one-did.new.runner c.in_ok-did.did (omega arith) c.loop-done.invariant c.in_ok-did.ensures.one c.if-did.true

@@ -1,0 +1,66 @@
+-- The last of some numbers, and members of nodes.
+use Rattle.std.proofs.Common.{◌≡◌, ℕ, zero, suc, ◌+◌, ◌-◌, ◌<◌, ◌≤◌, Bool, true, false, ◌||◌, List, [], ◌∷◌, length, get_or, ap, refl, sym, ◌∙◌, subst, arith}
+use Rattle.std.specs.Prelude.{◌==◌, slice_index}
+use Rattle.fk_tree.specs.Tree as t
+use Rattle.fk_tree.specs.Tree.{Tree, is_member}
+use Rattle.fk_tree.specs.Sound.{IsSound}
+use Rattle.fk_meaning.specs.Round.{lowest, highest}
+use Rattle.fk_replay_phases.specs.Present.{AreBelow, acting_at}
+use Rattle.fk_replay_phases.specs.declared.acting.Acting.{Acting}
+
+pub none : (xs : List ℕ) → length xs ≡ 0 → 0 ≡ highest xs
+none [] e = refl
+none (x ∷ xs) e = absurd (let z : ⊥ = omega arith in z)
+
+pub last_one : (xs : List ℕ) → 0 < length xs → get_or xs (length xs - 1) 0 ≡ highest xs
+last_one [] lt = absurd (let z : ⊥ = omega arith in z)
+last_one (x ∷ []) lt = refl
+last_one (x ∷ y ∷ ys) lt =
+    ap (λ (k : ℕ). get_or (x ∷ y ∷ ys) k 0) (let e : length (x ∷ y ∷ ys) - 1 ≡ suc (length (y ∷ ys) - 1) = omega arith in e)
+    ∙ last_one (y ∷ ys) (omega arith)
+
+-- an element, whatever stands for one that isn't there
+pub element : (xs : List Acting) (i : ℕ) (d : Acting) → i < length xs → get_or xs i d ≡ get_or xs i (get_or xs i d)
+element [] i d lt = absurd (let z : ⊥ = omega arith in z)
+element (x ∷ xs) zero d lt = refl
+element (x ∷ xs) (suc i) d lt = element xs i d (omega arith)
+
+self_in : (x : ℕ) (xs : List ℕ) → is_member x (x ∷ xs) ≡ true
+self_in x xs = grind arith
+
+later_in : (x y : ℕ) (xs : List ℕ) → is_member x xs ≡ true → is_member x (y ∷ xs) ≡ true
+later_in x y xs is = by (x == y)
+  where
+    by : (b : Bool) → b || is_member x xs ≡ true
+    by true = refl
+    by false = is
+
+index_in : (xs : List ℕ) (i : ℕ) → i < length xs → is_member (slice_index xs i) xs ≡ true
+index_in [] i lt = absurd (let z : ⊥ = omega arith in z)
+index_in (x ∷ xs) zero lt = self_in x xs
+index_in (x ∷ xs) (suc i) lt = later_in (slice_index xs i) x xs (index_in xs i (omega arith))
+
+-- the members of a node are processors
+pub members_below : (p n : ℕ) (tree : Tree) → IsSound p tree → AreBelow p (t.members tree n)
+members_below p n tree sound = record { each = λ i lt. sound.within n (slice_index (t.members tree n) i) (index_in (t.members tree n) i lt) }
+
+lowest_in : (xs : List ℕ) (h : ℕ) → is_member h xs ≡ true → is_member (lowest xs) xs ≡ true
+lowest_in [] h is = is
+lowest_in (x ∷ xs) h is = self_in x xs
+
+highest_in : (xs : List ℕ) (h : ℕ) → is_member h xs ≡ true → is_member (highest xs) xs ≡ true
+highest_in [] h is = is
+highest_in (x ∷ []) h is = self_in x []
+highest_in (x ∷ y ∷ ys) h is = later_in (highest (y ∷ ys)) x (y ∷ ys) (highest_in (y ∷ ys) y (self_in y ys))
+
+pub lowest_below : (p h : ℕ) (tree : Tree) → IsSound p tree → h < p → lowest (t.members tree (tree.places h)) < p
+lowest_below p h tree sound lt =
+    sound.within (tree.places h) (lowest (t.members tree (tree.places h))) (lowest_in (t.members tree (tree.places h)) h (sound.placed h lt).member)
+
+pub highest_below : (p h : ℕ) (tree : Tree) → IsSound p tree → h < p → highest (t.members tree (tree.places h)) < p
+highest_below p h tree sound lt =
+    sound.within (tree.places h) (highest (t.members tree (tree.places h))) (highest_in (t.members tree (tree.places h)) h (sound.placed h lt).member)
+
+-- the lowest member of the node of one who acts
+pub acting_low : (p : ℕ) (tree : Tree) (x : Acting) → IsSound p tree → x.number < p → x ≡ acting_at tree x.number → x.lowest < p
+acting_low p tree x sound lt is = subst (λ (k : ℕ). k < p) (sym (ap (λ (y : Acting). y.lowest) is)) (lowest_below p x.number tree sound lt)
