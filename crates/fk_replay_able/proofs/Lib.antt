@@ -1,0 +1,2 @@
+-- who could act
+pub mod Able
