@@ -159,7 +159,7 @@ fits_at round does tree number (c ∷ counts) zero k e all lt =
 fits_at round does tree number (c ∷ counts) (suc h) k e all lt =
     fits_at round does tree (suc number) counts h k (omega (arith, e)) (and_parts (fits round does tree number c) (all_fit round does tree (suc number) counts) all).1 lt
 
-fits_some : (round : Round) (does : ℕ → Joint) (tree : Tree) (h c : ℕ) → 0 < c → fits round does tree h c ≡ true → fits_kind round does tree h (tree.places h) (t.kind tree (tree.places h)) ≡ true
+pub fits_some : (round : Round) (does : ℕ → Joint) (tree : Tree) (h c : ℕ) → 0 < c → fits round does tree h c ≡ true → fits_kind round does tree h (tree.places h) (t.kind tree (tree.places h)) ≡ true
 fits_some round does tree h zero lt may = absurd (omega (arith, lt))
 fits_some round does tree h (suc c) lt may = may
 
@@ -228,7 +228,7 @@ module _ {W X : Type 0} (next : W → Option (Step W)) (place : W → X) (set : 
     met_by h (Some (Asynchronous alone)) j kind there waits fit is =
         met_at (Some (Asynchronous alone)) j kind there waits (subst (λ (i : Joint). joins round does s.tree n i ≡ true) is fit)
 
-  within : (h : ℕ) → is_some (step_at next s h) ≡ true → h < set.processors
+  pub within : (h : ℕ) → is_some (step_at next s h) ≡ true → h < set.processors
   within h goes_on = let many = stands.tree.many in let lt = short s.runners h goes_on in omega arith
     where
       short : (rs : List (Runner W)) (i : ℕ) → is_some (step_of next (slice_get rs i)) ≡ true → i < length rs
@@ -261,3 +261,306 @@ module _ {W X : Type 0} (next : W → Option (Step W)) (place : W → X) (set : 
       by (inl alone) = inl (ap (waits_for_none (t.kind s.tree n)) alone ∙ alone_free (t.kind s.tree n))
       by (inr one) =
           met_by c.round parts.0 n h (t.kind s.tree n) (joint_before next s h) refl there (λ first parts' kind. waits_resume h first parts' kind x.goes_on) fit (x.same one)
+
+-- ---- the round of those who are needed
+
+from_zero : (ms : List ℕ) (h : ℕ) → is_member h ms ≡ true → is_member (0 + h) ms ≡ true
+from_zero ms h is = let same : h ≡ 0 + h = omega arith in subst (λ (j : ℕ). is_member j ms ≡ true) same is
+
+to_zero : (ms : List ℕ) (h : ℕ) → is_member (0 + h) ms ≡ true → is_member h ms ≡ true
+to_zero ms h is = let same : 0 + h ≡ h = omega arith in subst (λ (j : ℕ). is_member j ms ≡ true) same is
+
+turn_at : {W : Type 0} (ms : List ℕ) (h i : ℕ) (rs : List (Runner W)) → i < length rs → slice_index (turns ms h rs) i ≡ turn_of (is_member (h + i) ms)
+turn_at ms h i [] lt = absurd (omega arith)
+turn_at ms h zero (r ∷ rs) lt = let same : h ≡ h + 0 = omega arith in ap (λ (j : ℕ). turn_of (is_member j ms)) same
+turn_at ms h (suc i) (r ∷ rs) lt =
+    let same : suc h + i ≡ h + suc i = omega arith in turn_at ms (suc h) i rs (omega arith) ∙ ap (λ (j : ℕ). turn_of (is_member j ms)) same
+
+module _ {W : Type 0} (next : W → Option (Step W)) (set : Setting) where
+  abbrev HaveNext : (ms : List ℕ) (h : ℕ) → List (Runner W) → Type 0
+  HaveNext ms h rs = (i : ℕ) (r : Runner W) → slice_get rs i ≡ Some r → is_member (h + i) ms ≡ true → is_some (next r.left) ≡ true
+
+  may_turn : (b : Bool) (r : Runner W) → (b ≡ true → is_some (next r.left) ≡ true) → may_act next set (turn_of b) r ≡ true
+  may_turn true r is = is refl
+  may_turn false r is = refl
+
+  all_may : (ms : List ℕ) (h : ℕ) (rs : List (Runner W)) → HaveNext ms h rs → all_may_act next set (turns ms h rs) rs ≡ true
+  all_may ms h [] all = refl
+  all_may ms h (r ∷ rs) all =
+      let same : h ≡ h + 0 = omega arith in
+      and_from (may_act next set (turn_of (is_member h ms)) r) (all_may_act next set (turns ms (suc h) rs) rs)
+      (may_turn (is_member h ms) r (λ is. all 0 r refl (subst (λ (j : ℕ). is_member j ms ≡ true) same is)))
+      (all_may ms (suc h) rs (λ i q at is. let later : suc h + i ≡ h + suc i = omega arith in all (suc i) q at (subst (λ (j : ℕ). is_member j ms ≡ true) later is)))
+
+  taken_at : (ms : List ℕ) (h i : ℕ) (rs : List (Runner W)) (r : Runner W) → slice_get rs i ≡ Some r → is_member (h + i) ms ≡ true
+      → joint_at (begin_all next set (turns ms h rs) rs) i ≡ joint_due (next r.left)
+  taken_at ms h i [] r at is = absurd (cc)
+  taken_at ms h zero (q ∷ rs) r at is =
+      let here : h + 0 ≡ h = omega arith in
+      ap (λ (b : Bool). joint_due (begin next set (turn_of b) q).due) (subst (λ (j : ℕ). is_member j ms ≡ true) here is)
+      ∙ ap (λ (x : Runner W). joint_due (next x.left)) (first_is q r at)
+  taken_at ms h (suc i) (q ∷ rs) r at is =
+      let later : h + suc i ≡ suc h + i = omega arith in taken_at ms (suc h) i rs r at (subst (λ (j : ℕ). is_member j ms ≡ true) later is)
+
+  -- who has an operation left is there
+  pub record IsThere (s : State W) (m : ℕ) : Type 0 where
+    pub runner : Runner W
+    pub at : slice_get s.runners m ≡ Some runner
+    pub step : Step W
+    pub ahead : next runner.left ≡ Some step
+
+  pub is_there : (s : State W) (m : ℕ) → is_some (step_at next s m) ≡ true → IsThere s m
+  is_there s m goes_on = by (slice_get s.runners m) refl goes_on
+    where
+      due : (r : Runner W) → slice_get s.runners m ≡ Some r → (step : Option (Step W)) → next r.left ≡ step → is_some step ≡ true → IsThere s m
+      due r at None e is = untrue is
+      due r at (Some step) e is = record { runner = r; at = at; step = step; ahead = e }
+
+      by : (x : Option (Runner W)) → slice_get s.runners m ≡ x → is_some (step_of next x) ≡ true → IsThere s m
+      by None at is = untrue is
+      by (Some r) at is = due r at (next r.left) refl is
+
+  module _ (s : State W) (ms : List ℕ) (each : (m : ℕ) → is_member m ms ≡ true → is_some (step_at next s m) ≡ true) where
+    abbrev pub turn : Round
+    turn = turns ms 0 s.runners
+
+    abbrev pub taken : ℕ → Joint
+    taken i = joint_at (begin_all next set turn s.runners) i
+
+    may : all_may_act next set turn s.runners ≡ true
+    may = all_may ms 0 s.runners (λ i r at is. sym (ap (λ (x : Option (Runner W)). is_some (step_of next x)) at) ∙ each i (to_zero ms i is))
+
+    takes : (m : ℕ) → is_member m ms ≡ true → taken m ≡ joint_before next s m
+    takes m is =
+        let x = is_there s m (each m is) in
+        taken_at ms 0 m s.runners x.runner x.at (from_zero ms m is) ∙ sym (ap (λ (y : Option (Runner W)). joint_due (step_of next y)) x.at)
+
+    short : (rs : List (Runner W)) (i : ℕ) (r : Runner W) → slice_get rs i ≡ Some r → i < length rs
+    short [] i r at = absurd (cc)
+    short (q ∷ rs) zero r at = omega arith
+    short (q ∷ rs) (suc i) r at = let lt = short rs i r at in omega arith
+
+    once : (m : ℕ) → is_member m ms ≡ true → slice_index turn m ≡ 1
+    once m is = let x = is_there s m (each m is) in turn_at ms 0 m s.runners (short s.runners m x.runner x.at) ∙ ap turn_of (from_zero ms m is)
+
+    abbrev Fits : (m : ℕ) → Type 0
+    Fits m = fits_kind turn taken s.tree m (s.tree.places m) (t.kind s.tree (s.tree.places m)) ≡ true
+
+    fits_one : ((m : ℕ) → is_member m ms ≡ true → Fits m) → (h : ℕ) (b : Bool) → is_member h ms ≡ b → fits turn taken s.tree h (turn_of b) ≡ true
+    fits_one fit h true is = fit h is
+    fits_one fit h false is = refl
+
+    fit_from : ((m : ℕ) → is_member m ms ≡ true → Fits m) → (h : ℕ) (rs : List (Runner W)) → all_fit turn taken s.tree h (turns ms h rs) ≡ true
+    fit_from fit h [] = refl
+    fit_from fit h (r ∷ rs) =
+        and_from (fits turn taken s.tree h (turn_of (is_member h ms))) (all_fit turn taken s.tree (suc h) (turns ms (suc h) rs))
+        (fits_one fit h (is_member h ms) refl) (fit_from fit (suc h) rs)
+
+    could : ((m : ℕ) → is_member m ms ≡ true → Fits m) → (h : ℕ) → is_member h ms ≡ true → CouldAct next set h s
+    could fit h is = record {
+      round = turn;
+      allowed = and_from (all_may_act next set turn s.runners) (all_fit turn taken s.tree 0 turn) may (fit_from fit 0 s.runners);
+      within = let one = once h is in omega arith;
+    }
+
+    -- they do one joint operation, at a node that is no group
+    abbrev NotInLockstep : Option Kind → Type 0
+    NotInLockstep k = k ≡ Some Lockstep → ⊥
+
+    fits_there : (m n : ℕ) (k : Option Kind) (j : Joint) → s.tree.places m ≡ n → t.kind s.tree n ≡ k → NotInLockstep k → taken m ≡ j → joins turn taken s.tree n j ≡ true → Fits m
+    fits_there m n k j place kind free is join =
+        subst (λ (i : ℕ). fits_kind turn taken s.tree m i (t.kind s.tree i) ≡ true) (sym place)
+        (subst (λ (x : Option Kind). fits_kind turn taken s.tree m n x ≡ true) (sym kind)
+        (by k free (subst (λ (i : Joint). joins turn taken s.tree n i ≡ true) (sym is) join)))
+      where
+        by : (x : Option Kind) → NotInLockstep x → joins turn taken s.tree n (taken m) ≡ true → fits_kind turn taken s.tree m n x ≡ true
+        by None free e = e
+        by (Some Lockstep) free e = absurd (free refl)
+        by (Some (Waiting first parts)) free e = e
+        by (Some (Asynchronous alone)) free e = e
+
+    do_all : (j : Joint) (these : List ℕ) → ((m : ℕ) → is_member m these ≡ true → (is_member m ms ≡ true) × (joint_before next s m ≡ j)) → all_do turn taken j these ≡ true
+    do_all j these all =
+        all_members (λ m. (slice_index turn m == 1) && same_joint j (taken m)) these
+        (λ m is.
+        let here = all m is in
+        and_from (slice_index turn m == 1) (same_joint j (taken m)) (eq-eqb (slice_index turn m) 1 (once m here.0))
+        (ap (same_joint j) (takes m here.0 ∙ here.1) ∙ same_self j))
+
+module _ {W X : Type 0} (next : W → Option (Step W)) (place : W → X) (set : Setting) (s : State W) (steady : IsSteadyInTree next place set s) where
+  stand : StandsInTree next place set s
+  stand = steady.stands
+
+  -- all members of a group could act if one has an operation left
+  in_group : (h n : ℕ) → s.tree.places h ≡ n → t.kind s.tree n ≡ Some Lockstep → is_some (step_at next s h) ≡ true → CouldAct next set h s
+  in_group h n place_is kind goes_on = could next set s ms each fit h has
+    where
+      abbrev ms : List ℕ
+      ms = t.members s.tree n
+
+      has : Has s.tree n h
+      has = subst (λ (i : ℕ). Has s.tree i h) place_is (stand.sound.placed h (within next place set s stand h goes_on)).member
+
+      each : (m : ℕ) → is_member m ms ≡ true → is_some (step_at next s m) ≡ true
+      each m is =
+          let many = stand.tree.many in
+          let lt = stand.sound.within n m is in
+          let q = some_at s.runners m (omega arith) in
+          let r = is_there next set s h goes_on in
+          ap (λ (x : Option (Runner W)). is_some (step_of next x)) q.1
+          ∙ steady.together n h m 1 r.runner q.0 kind has is r.at q.1 (ap is_some r.ahead)
+
+      fit : (m : ℕ) → is_member m ms ≡ true → fits_kind (turn next set s ms each) (taken next set s ms each) s.tree m (s.tree.places m) (t.kind s.tree (s.tree.places m)) ≡ true
+      fit m is =
+          let there = leaf_stands set.processors s.tree stand.sound n (leaf_by set.processors n Lockstep s.tree stand.sound idle-lockstep kind) m is in
+          let round = turn next set s ms each in
+          subst (λ (i : ℕ). fits_kind round (taken next set s ms each) s.tree m i (t.kind s.tree i) ≡ true) (sym there)
+          (subst (λ (x : Option Kind). fits_kind round (taken next set s ms each) s.tree m n x ≡ true) (sym kind)
+          (all_members (λ i. slice_index round i == slice_index round m) ms (λ i in_group. eq-eqb (slice_index round i) (slice_index round m)
+          (once next set s ms each i in_group ∙ sym (once next set s ms each m is)))))
+
+  -- who stands at a barrier in the body of a `seq` is the one who runs it
+  runs_body : (h n : ℕ) → s.tree.places h ≡ n → t.kind s.tree n ≡ Some (Asynchronous true) → is_some (step_at next s h) ≡ true → joint_before next s h ≡ AtBarrier
+      → is_member h (body_of (Some (Asynchronous true)) (t.members s.tree n)) ≡ true
+  runs_body h n place_is kind goes_on barrier = by (is_member h (body_of (Some (Asynchronous true)) (t.members s.tree n))) refl
+    where
+      r : IsThere next set s h
+      r = is_there next set s h goes_on
+
+      abbrev above : ℕ
+      above = length r.runner.has.outer
+
+      meets : joint_of r.step.operation ≡ AtBarrier
+      meets = sym (ap (λ (x : Option (Runner W)). joint_due (step_of next x)) r.at ∙ ap joint_due r.ahead) ∙ barrier
+
+      closing : (operation : Operation) → operation ≡ o.Meet true → joint_of operation ≡ AtBarrier → ⊥
+      closing operation is e = let bad : joint_of (o.Meet true) ≡ AtBarrier = sym (ap joint_of is) ∙ e in cc
+
+      behind : (i : ℕ) → where_in i (Some (Asynchronous true)) false ≡ Some (stand.tree.placed h r.runner r.at).place → ⊥
+      behind zero e = cc
+      behind (suc i) e =
+          let p = stand.tree.placed h r.runner r.at in
+          let is : p.place ≡ BehindBody i = sym (first_is (BehindBody i) p.place e) in
+          let to = moves.goes_on next p.place r.runner.left r.step p.goes r.ahead true in
+          closing r.step.operation (moves.others_meet i r.step.operation true to.0 (subst (λ (q : Where). goes q r.step.operation true ≡ Some to.0) is to.1)) meets
+
+      by : (b : Bool) → is_member h (body_of (Some (Asynchronous true)) (t.members s.tree n)) ≡ b → is_member h (body_of (Some (Asynchronous true)) (t.members s.tree n)) ≡ true
+      by true e = e
+      by false e =
+          let p = stand.tree.placed h r.runner r.at in
+          absurd (behind above (ap (where_in above (Some (Asynchronous true))) (sym e) ∙ sym (at_node s.tree h above n (Asynchronous true) place_is kind) ∙ p.there))
+
+  -- who waits for none could act by itself
+  by_itself : (h : ℕ) (k : Option Kind) → t.kind s.tree (s.tree.places h) ≡ k → (k ≡ Some Lockstep → ⊥) → is_some (step_at next s h) ≡ true
+      → waits_for_none k (joint_before next s h) ≡ true → CouldAct next set h s
+  by_itself h k kind free goes_on alone = could next set s ms each fit h here
+    where
+      abbrev ms : List ℕ
+      ms = h ∷ []
+
+      abbrev n : ℕ
+      n = s.tree.places h
+
+      here : is_member h ms ≡ true
+      here = ap (λ (b : Bool). b || false) (eq-eqb h h refl)
+
+      is_one : (m : ℕ) → is_member m ms ≡ true → m ≡ h
+      is_one m is = eqb-true m h (or_none (m == h) is)
+
+      each : (m : ℕ) → is_member m ms ≡ true → is_some (step_at next s m) ≡ true
+      each m is = subst (λ (i : ℕ). is_some (step_at next s i) ≡ true) (sym (is_one m is)) goes_on
+
+      one_runs : (x : List ℕ) (i : ℕ) → is_member h (body_of (Some (Asynchronous true)) x) ≡ true → is_member i (body_of (Some (Asynchronous true)) x) ≡ true → i ≡ h
+      one_runs [] i a b = untrue a
+      one_runs (y ∷ ys) i a b = eqb-true i y (or_none (i == y) b) ∙ sym (eqb-true h y (or_none (h == y) a))
+
+      join : (x : Option Kind) (j : Joint) → t.kind s.tree n ≡ x → joint_before next s h ≡ j → (x ≡ Some Lockstep → ⊥) → waits_for_none x j ≡ true → joins (turn next set s ms each) (taken next set s ms each) s.tree n j ≡ true
+      join x Alone e is off alone = refl
+      join (Some (Asynchronous true)) AtBarrier e is off alone =
+          subst (λ (y : Option Kind). all_do (turn next set s ms each) (taken next set s ms each) AtBarrier (body_of y (t.members s.tree n)) ≡ true) (sym e)
+          (do_all next set s ms each AtBarrier (body_of (Some (Asynchronous true)) (t.members s.tree n))
+          (λ i in_body.
+          let same = one_runs (t.members s.tree n) i (runs_body h n refl e goes_on is) in_body in
+          (subst (λ (m : ℕ). is_member m ms ≡ true) (sym same) here, ap (joint_before next s) same ∙ is)))
+      join None Starting e is off alone = untrue alone
+      join None AtBarrier e is off alone = untrue alone
+      join None Closing e is off alone = untrue alone
+      join None Resuming e is off alone = untrue alone
+      join (Some Lockstep) j e is off alone = absurd (off refl)
+      join (Some (Waiting first parts)) Starting e is off alone = untrue alone
+      join (Some (Waiting first parts)) AtBarrier e is off alone = untrue alone
+      join (Some (Waiting first parts)) Closing e is off alone = untrue alone
+      join (Some (Waiting first parts)) Resuming e is off alone = untrue alone
+      join (Some (Asynchronous true)) Starting e is off alone = untrue alone
+      join (Some (Asynchronous true)) Closing e is off alone = untrue alone
+      join (Some (Asynchronous true)) Resuming e is off alone = untrue alone
+      join (Some (Asynchronous false)) Starting e is off alone = untrue alone
+      join (Some (Asynchronous false)) AtBarrier e is off alone = untrue alone
+      join (Some (Asynchronous false)) Closing e is off alone = untrue alone
+      join (Some (Asynchronous false)) Resuming e is off alone = untrue alone
+
+      fit : (m : ℕ) → is_member m ms ≡ true → fits_kind (turn next set s ms each) (taken next set s ms each) s.tree m (s.tree.places m) (t.kind s.tree (s.tree.places m)) ≡ true
+      fit m is =
+          fits_there next set s ms each m n k (joint_before next s h) (ap s.tree.places (is_one m is)) kind free
+          (takes next set s ms each m is ∙ ap (joint_before next s) (is_one m is)) (join k (joint_before next s h) kind refl free alone)
+
+  -- all who have met could act
+  together : (h : ℕ) (k : Option Kind) → t.kind s.tree (s.tree.places h) ≡ k → (k ≡ Some Lockstep → ⊥) → is_some (step_at next s h) ≡ true
+      → waits_for_none k (joint_before next s h) ≡ false → AreMet next s (s.tree.places h) (joint_before next s h) → CouldAct next set h s
+  together h k kind free goes_on waits met = could next set s ms each fit h has
+    where
+      abbrev n : ℕ
+      n = s.tree.places h
+
+      abbrev ms : List ℕ
+      ms = t.members s.tree n
+
+      abbrev j : Joint
+      j = joint_before next s h
+
+      has : Has s.tree n h
+      has = (stand.sound.placed h (within next place set s stand h goes_on)).member
+
+      some_due : (due : Option (Step W)) → joint_due due ≡ j → is_some due ≡ true
+      some_due None e = absurd (true≢false (sym (alone_free k) ∙ ap (waits_for_none k) e ∙ waits))
+      some_due (Some step) e = refl
+
+      each : (m : ℕ) → is_member m ms ≡ true → is_some (step_at next s m) ≡ true
+      each m is = some_due (step_at next s m) (met.before m is)
+
+      all : (i : Joint) → i ≡ j → (these : List ℕ) → ((m : ℕ) → is_member m these ≡ true → is_member m ms ≡ true) → all_do (turn next set s ms each) (taken next set s ms each) i these ≡ true
+      all i e these among = do_all next set s ms each i these (λ m is. (among m is, met.before m (among m is) ∙ sym e))
+
+      join : (i : Joint) → i ≡ j → joins (turn next set s ms each) (taken next set s ms each) s.tree n i ≡ true
+      join Alone e = refl
+      join Starting e = all Starting e ms (λ m is. is)
+      join AtBarrier e = all AtBarrier e (body_of (t.kind s.tree n) ms) (λ m is. body_among (t.kind s.tree n) ms m is)
+      join Closing e = all Closing e ms (λ m is. is)
+      join Resuming e =
+          and_from (t.ready s.tree n) (all_do (turn next set s ms each) (taken next set s ms each) Resuming ms) (met.ready (sym e)) (all Resuming e ms (λ m is. is))
+
+      fit : (m : ℕ) → is_member m ms ≡ true → fits_kind (turn next set s ms each) (taken next set s ms each) s.tree m (s.tree.places m) (t.kind s.tree (s.tree.places m)) ≡ true
+      fit m is = fits_there next set s ms each m n k j (met.stand m is) kind free (takes next set s ms each m is ∙ met.before m is) (join j refl)
+
+  pub could_act : (h : ℕ) → IsAble next s h → CouldAct next set h s
+  could_act h a = by (t.kind s.tree (s.tree.places h)) refl
+    where
+      either : (k : Option Kind) → t.kind s.tree (s.tree.places h) ≡ k → (k ≡ Some Lockstep → ⊥) → (b : Bool) → waits_for_none k (joint_before next s h) ≡ b
+          → (waits_for_none (t.kind s.tree (s.tree.places h)) (joint_before next s h) ≡ true) ⊎ AreMet next s (s.tree.places h) (joint_before next s h) → CouldAct next set h s
+      either k kind off true e free = by_itself h k kind off a.goes_on e
+      either k kind off false e (inl alone) = absurd (true≢false (sym alone ∙ ap (λ (x : Option Kind). waits_for_none x (joint_before next s h)) kind ∙ e))
+      either k kind off false e (inr met) = together h k kind off a.goes_on e met
+
+      by : (k : Option Kind) → t.kind s.tree (s.tree.places h) ≡ k → CouldAct next set h s
+      by None kind = either None kind (λ e. absurd (cc)) (waits_for_none None (joint_before next s h)) refl a.free
+      by (Some Lockstep) kind = in_group h (s.tree.places h) refl kind a.goes_on
+      by (Some (Waiting first parts)) kind =
+          either (Some (Waiting first parts)) kind (λ e. absurd (cc)) (waits_for_none (Some (Waiting first parts)) (joint_before next s h)) refl a.free
+      by (Some (Asynchronous alone)) kind =
+          either (Some (Asynchronous alone)) kind (λ e. absurd (cc)) (waits_for_none (Some (Asynchronous alone)) (joint_before next s h)) refl a.free
+
+pub who_could_act_is_able : (W X : Type 0) → WhoCouldActIsAble W X
+who_could_act_is_able W X next place set s h steady = record {
+  there = is_able next place set s steady.stands h;
+  back = could_act next place set s steady h;
+}
