@@ -5,3 +5,5 @@ pub mod Prefixes
 pub mod Paced
 -- rounds in which nobody acts
 pub mod Idle
+-- the moments of a trace
+pub mod Moments

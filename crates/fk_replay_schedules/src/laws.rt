@@ -2,6 +2,7 @@
 
 ghost use Rattle.fk_replay_schedules.specs.Laws.{GoodSchedulesAreLawful, LawfulSchedulesHaveNoFault};
 ghost use Rattle.fk_replay_schedules.specs.Laws.{AbsencesTellLateRounds, AbsencesAreKept};
+ghost use Rattle.fk_replay_schedules.specs.Moments.{TracesHaveMoments};
 ghost use Rattle.fk_replay_schedules.specs.Laws.{EmptyRoundsChangeNothing, FirstRoundsArePossible};
 
 /// A lawful schedule has no bad round and no late one.
@@ -36,4 +37,9 @@ pub fn empty_rounds_change_nothing<W>()
 /// The first rounds of a schedule are possible one after another if each of them is.
 pub fn first_rounds_are_possible<W>()
     ensures { FirstRoundsArePossible W }
+{}
+
+/// The lines of the counts in a trace text tell moments, each later than those before it.
+pub fn traces_have_moments()
+    ensures { TracesHaveMoments }
 {}
