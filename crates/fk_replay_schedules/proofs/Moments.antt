@@ -1,7 +1,6 @@
 -- The moments of a trace, and its rounds.
-use Rattle.std.proofs.Common.{◌≡◌, ℕ, zero, suc, ◌+◌, ◌<◌, ◌≤◌, Bool, true, false, List, [], ◌∷◌, length, Option, Some, None, refl, sym, ap, ◌∙◌, subst, arith}
+use Rattle.std.proofs.Common.{◌≡◌, ℕ, zero, suc, ◌+◌, ◌<◌, ◌≤◌, Bool, true, false, List, [], ◌∷◌, length, Option, Some, None, refl, sym, ap, ◌∙◌, subst, arith, eq-eqb, ne_eqb}
 use Rattle.std.specs.Prelude.{◌==◌, if◌then◌else◌, slice_get, slice_index}
-use Rattle.std.proofs.lemmas.Nat.{eqb-refl, eqb_false}
 use Rattle.fk_trace.specs.Text.{Range}
 use Rattle.fk_trace.specs.declared.column.Column.{Column}
 use Rattle.fk_trace.specs.declared.column.Column.TheVariants.{Counts, Of}
@@ -36,7 +35,7 @@ none_before : (harts last behind : ℕ) (moments : Moments) → AreMoments harts
 none_before harts last behind [] x cycle low = refl
 none_before harts last behind ((at, ranges) ∷ moments) x cycle low =
     let less = x.0 in
-    by (at == cycle) (eqb_false at cycle (λ e. omega (arith, e, less, low))) (none_before harts last at moments x.1.1 cycle (omega arith))
+    by (at == cycle) (ne_eqb at cycle (λ e. omega (arith, e, less, low))) (none_before harts last at moments x.1.1 cycle (omega arith))
   where
     by : (b : Bool) → b ≡ false → ranges_at moments cycle ≡ [] → (if b then ranges else ranges_at moments cycle) ≡ []
     by true e rest = absurd (cc)
@@ -61,7 +60,7 @@ module _ (harts last : ℕ) (moments : Moments) (behind at : ℕ) (ranges : List
   is_at false e = absurd (cc)
 
   pub ranges_there : ranges_at moments at ≡ ranges
-  ranges_there = x.same at later ∙ is_at (at == at) (eqb-refl at)
+  ranges_there = x.same at later ∙ is_at (at == at) (eq-eqb at at refl)
 
   not_at : (cycle : ℕ) (b : Bool) → b ≡ false → (if b then ranges else ranges_at rest cycle) ≡ ranges_at rest cycle
   not_at cycle true e = absurd (cc)
@@ -69,14 +68,14 @@ module _ (harts last : ℕ) (moments : Moments) (behind at : ℕ) (ranges : List
 
   pub empty_before : (cycle : ℕ) → behind < cycle → cycle < at → ranges_at moments cycle ≡ []
   empty_before cycle low high =
-      x.same cycle low ∙ not_at cycle (at == cycle) (eqb_false at cycle (λ e. omega (arith, e, high)))
+      x.same cycle low ∙ not_at cycle (at == cycle) (ne_eqb at cycle (λ e. omega (arith, e, high)))
       ∙ none_before harts last at rest x.ordered.1.1 cycle (omega arith)
 
   pub to_come_next : AreToCome harts last moments at rest
   to_come_next = record {
     ordered = x.ordered.1.1;
     same = λ cycle low. let less = later in
-        x.same cycle (omega arith) ∙ not_at cycle (at == cycle) (eqb_false at cycle (λ e. omega (arith, e, low)));
+        x.same cycle (omega arith) ∙ not_at cycle (at == cycle) (ne_eqb at cycle (λ e. omega (arith, e, low)));
   }
 
 pub empty_behind : (harts last : ℕ) (moments : Moments) (behind : ℕ) → AreToCome harts last moments behind [] → (cycle : ℕ) → behind < cycle → ranges_at moments cycle ≡ []
