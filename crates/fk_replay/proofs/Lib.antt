@@ -4,3 +4,5 @@ pub mod Known
 pub mod Composed
 pub mod Taking
 pub mod Facts
+pub mod Following
+pub mod Replays

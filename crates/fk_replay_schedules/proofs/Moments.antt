@@ -13,7 +13,7 @@ use Rattle.fk_replay_schedules.specs.Moments.{Moments, AreMoments, AreToCome, Tr
 ordered : (harts last cycle before : ℕ) (lines : List Told) → AreInOrder harts last cycle before lines → AreMoments harts last cycle (moments_of lines)
 ordered harts last cycle before [] x = x
 ordered harts last cycle before (told ∷ lines) x =
-    by told.column told.cycle told.ranges (moments_of lines) x.0.ranges x.1.0 (ordered harts last told.cycle (rank told.column) lines x.1.1)
+    by told.column told.cycle told.ranges (moments_of lines) x.0.ranges x.1 (ordered harts last told.cycle (rank told.column) lines x.2)
   where
     by : (column : Column) (now : ℕ) (ranges : List Range) (moments : Moments) → AreRanges column harts ranges → Follows cycle before column now → AreMoments harts last now moments
         → AreMoments harts last cycle (with_moment column now ranges moments)
@@ -28,14 +28,14 @@ traces_have_moments harts last lines text is = ordered harts last 0 0 lines is.b
 within_last : (harts last behind : ℕ) (moments : Moments) → AreMoments harts last behind moments → behind ≤ last
 within_last harts last behind [] x = x
 within_last harts last behind ((cycle, ranges) ∷ moments) x =
-    let low = within_last harts last cycle moments x.1.1 in let less = x.0 in omega arith
+    let low = within_last harts last cycle moments x.2 in let less = x.0 in omega arith
 
 -- a cycle before the moments has none
 none_before : (harts last behind : ℕ) (moments : Moments) → AreMoments harts last behind moments → (cycle : ℕ) → cycle ≤ behind → ranges_at moments cycle ≡ []
 none_before harts last behind [] x cycle low = refl
 none_before harts last behind ((at, ranges) ∷ moments) x cycle low =
     let less = x.0 in
-    by (at == cycle) (ne_eqb at cycle (λ e. omega (arith, e, less, low))) (none_before harts last at moments x.1.1 cycle (omega arith))
+    by (at == cycle) (ne_eqb at cycle (λ e. omega (arith, e, less, low))) (none_before harts last at moments x.2 cycle (omega arith))
   where
     by : (b : Bool) → b ≡ false → ranges_at moments cycle ≡ [] → (if b then ranges else ranges_at moments cycle) ≡ []
     by true e rest = absurd (cc)
@@ -50,10 +50,10 @@ module _ (harts last : ℕ) (moments : Moments) (behind at : ℕ) (ranges : List
   later = x.ordered.0
 
   pub at_most_last : at ≤ last
-  at_most_last = within_last harts last at rest x.ordered.1.1
+  at_most_last = within_last harts last at rest x.ordered.2
 
   pub ranges_are : AreRanges Counts harts ranges
-  ranges_are = x.ordered.1.0
+  ranges_are = x.ordered.1
 
   is_at : (b : Bool) → b ≡ true → (if b then ranges else ranges_at rest at) ≡ ranges
   is_at true e = refl
@@ -69,11 +69,11 @@ module _ (harts last : ℕ) (moments : Moments) (behind at : ℕ) (ranges : List
   pub empty_before : (cycle : ℕ) → behind < cycle → cycle < at → ranges_at moments cycle ≡ []
   empty_before cycle low high =
       x.same cycle low ∙ not_at cycle (at == cycle) (ne_eqb at cycle (λ e. omega (arith, e, high)))
-      ∙ none_before harts last at rest x.ordered.1.1 cycle (omega arith)
+      ∙ none_before harts last at rest x.ordered.2 cycle (omega arith)
 
   pub to_come_next : AreToCome harts last moments at rest
   to_come_next = record {
-    ordered = x.ordered.1.1;
+    ordered = x.ordered.2;
     same = λ cycle low. let less = later in
         x.same cycle (omega arith) ∙ not_at cycle (at == cycle) (ne_eqb at cycle (λ e. omega (arith, e, low)));
   }
