@@ -6,3 +6,6 @@ pub mod Taking
 pub mod Facts
 pub mod Following
 pub mod Replays
+pub mod Leaving
+pub mod Timely
+pub mod Traces
