@@ -32,7 +32,7 @@ use Rattle.fk_replay.specs.Passed.{AreOnTime, IsFirstLate, KnowsAbout, HasTold, 
 use Rattle.fk_replay.specs.Followed.{HasDone, HasStopped, HasFollowed, IsUnlawful, AreSteady}
 
 -- the same parts, but for the pace and for who has arrived
-same_run : (run new : Run) → new ≡ record run { pace = new.pace; arrived = new.arrived } → IsRun run → IsRun new
+pub same_run : (run new : Run) → new ≡ record run { pace = new.pace; arrived = new.arrived } → IsRun run → IsRun new
 same_run run new e x = subst IsRun (sym e) (record {
   few = x.few;
   setting = x.setting;
