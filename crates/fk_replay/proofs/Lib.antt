@@ -9,3 +9,4 @@ pub mod Replays
 pub mod Leaving
 pub mod Timely
 pub mod Traces
+pub mod Opening
