@@ -154,7 +154,7 @@ module _ (core : List CoreOp) (set : Setting) (round : Round) (s : State Positio
   resumes_of r (suc zero) only some may = by_next (next core r.left) refl
     where
       parts : (is_some (next core r.left) ≡ true)
-      parts = (and_true true (is_some (next core r.left)) (and_true (nat_lt 0 255) (true && is_some (next core r.left)) may).1).1
+      parts = (and_true (nat_lt 0 255 && true) (is_some (next core r.left)) may).1
 
       by_next : (o : Option (Step Position)) → next core r.left ≡ o → joint_due (next core r.left) ≡ Resuming
       by_next None e = absurd (let bad : false ≡ true = sym (ap is_some e) ∙ parts in cc)
@@ -163,9 +163,9 @@ module _ (core : List CoreOp) (set : Setting) (round : Round) (s : State Positio
     where
       first_local : is_local_next (next core) set (next core r.left) ≡ true
       first_local =
-          let all = and_true (nat_lt (suc k) 255) (are_local (next core) set (suc k) r && is_some (next core (after_locals (next core) set (suc k) r).left)) may in
-          let locals = and_true (are_local (next core) set (suc k) r) (is_some (next core (after_locals (next core) set (suc k) r).left)) all.1 in
-          (and_true (is_local_next (next core) set (next core r.left)) (are_local (next core) set k (after_one (next core) set r)) locals.0).0
+          let all = and_true (nat_lt (suc k) 255 && are_local (next core) set (suc k) r) (is_some (next core (after_locals (next core) set (suc k) r).left)) may in
+          let locals = and_true (nat_lt (suc k) 255) (are_local (next core) set (suc k) r) all.0 in
+          (and_true (is_local_next (next core) set (next core r.left)) (are_local (next core) set k (after_one (next core) set r)) locals.1).0
 
       by_next : (o : Option (Step Position)) → next core r.left ≡ o → ⊥
       by_next None e = let bad : false ≡ true = sym (ap (is_local_next (next core) set) e) ∙ first_local in cc
@@ -197,7 +197,7 @@ module _ (core : List CoreOp) (set : Setting) (round : Round) (s : State Positio
   pub not_begun : all_may_act (next core) set round s.runners ≡ false → (is_possible (next core) set round s ≡ true → ⊥) × ((tells : StopsTell (next core) set round s) → IsStopped (next core) set round s → ⊥)
   not_begun cannot = (
     λ possible.
-        let allowed = (and_true (is_allowed (next core) set round s) (is_none (result (next core) set round s).fault) (and_true (is_none s.fault) (is_allowed (next core) set round s && is_none (result (next core) set round s).fault) possible).1).0 in
+        let allowed = (and_true (is_none s.fault) (is_allowed (next core) set round s) (and_true (is_none s.fault && is_allowed (next core) set round s) (is_none (result (next core) set round s).fault) possible).0).1 in
         let may = (and_true (all_may_act (next core) set round s.runners) (all_fit round (rounds.joint_at (begin_all (next core) set round s.runners)) s.tree 0 round) allowed).0 in
         let bad : false ≡ true = sym cannot ∙ may in cc,
     λ tells stopped. let bad : false ≡ true = sym cannot ∙ (tells.back stopped).may in cc,
@@ -242,7 +242,7 @@ module _ (core : List CoreOp) (set : Setting) (round : Round) (s : State Positio
   pub is_it_possible : s.fault ≡ None → all_may_act (next core) set round s.runners ≡ true → all_fit round (rounds.joint_at (begin_all (next core) set round s.runners)) s.tree 0 round ≡ true
       → (result (next core) set round s).fault ≡ None → is_possible (next core) set round s ≡ true
   is_it_possible running may fit no_fault =
-      ap (λ f. is_none f && (is_allowed (next core) set round s && is_none (result (next core) set round s).fault)) running
+      ap (λ f. (is_none f && is_allowed (next core) set round s) && is_none (result (next core) set round s).fault) running
       ∙ ap (λ b. (b && all_fit round (rounds.joint_at (begin_all (next core) set round s.runners)) s.tree 0 round) && is_none (result (next core) set round s).fault) may
       ∙ ap (λ b. b && is_none (result (next core) set round s).fault) fit
       ∙ ap is_none no_fault
@@ -252,7 +252,7 @@ module _ (core : List CoreOp) (set : Setting) (round : Round) (s : State Positio
       → (is_possible (next core) set round s ≡ true → ⊥) × ((tells : StopsTell (next core) set round s) → IsStopped (next core) set round s → ⊥)
   not_fitting misfit no_fault = (
     λ possible.
-        let allowed = (and_true (is_allowed (next core) set round s) (is_none (result (next core) set round s).fault) (and_true (is_none s.fault) (is_allowed (next core) set round s && is_none (result (next core) set round s).fault) possible).1).0 in
+        let allowed = (and_true (is_none s.fault) (is_allowed (next core) set round s) (and_true (is_none s.fault && is_allowed (next core) set round s) (is_none (result (next core) set round s).fault) possible).0).1 in
         let fit = (and_true (all_may_act (next core) set round s.runners) (all_fit round (rounds.joint_at (begin_all (next core) set round s.runners)) s.tree 0 round) allowed).1 in
         let bad : false ≡ true = sym misfit ∙ fit in cc,
     λ tells stopped. let bad : None ≡ Some stopped.fault = sym no_fault ∙ (tells.back stopped).faults in cc,
@@ -264,7 +264,7 @@ module _ (core : List CoreOp) (set : Setting) (round : Round) (s : State Positio
       → (is_possible (next core) set round s ≡ true → ⊥) × ((tells : StopsTell (next core) set round s) → IsStopped (next core) set round s → ⊥)
   not_stopping fault faults neither = (
     λ possible.
-        let none = (and_true (is_allowed (next core) set round s) (is_none (result (next core) set round s).fault) (and_true (is_none s.fault) (is_allowed (next core) set round s && is_none (result (next core) set round s).fault) possible).1).1 in
+        let none = (and_true (is_none s.fault && is_allowed (next core) set round s) (is_none (result (next core) set round s).fault) possible).1 in
         let bad : false ≡ true = sym (ap is_none faults) ∙ none in cc,
     λ tells stopped.
         let told = tells.back stopped in

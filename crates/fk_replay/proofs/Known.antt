@@ -31,6 +31,15 @@ use Rattle.fk_replay_phases.specs.declared.actor.Actor.{Actor}
 use Rattle.fk_replay_trees.specs.Changes.{has_of, has_by, Needs, HaveParts, CanStep, CanChange, entered_mode, resumed_mode, mode_after, mode_as, agreed_by, settled_mode, ModesFollow}
 use Rattle.fk_replay_trees.proofs.Loop.{who_is, get_map}
 
+eq_true : (a b : ℕ) → a ≡ b → (a == b) ≡ true
+eq_true a b e = grind arith
+
+diff : (f i : ℕ) → (f + i - f == i) ≡ true
+diff f i = eq_true (f + i - f) i (omega arith)
+
+not_zero : (g : ℕ) → (suc g == 0) ≡ false
+not_zero g = grind arith
+
 -- ---- what a processor does
 
 steps_at : {W : Type 0} (old : Tree) (does : ℕ → Option Operation) (n : ℕ) (A : List (Acting W)) (k : ℕ) (x : Acting W) → StepsBy old does n A → slice_get A k ≡ Some x
@@ -277,10 +286,10 @@ module _ (core : List CoreOp) (tree : Tree) (actors : List Actor) (p : ℕ) (sou
         count = min (not_negative (last (values (who (actings_of core actors) (highest (t.members tree (tree.places h))))))) (length (t.members tree (tree.places h)))
 
         all : length (t.members tree (tree.places h)) ≡ p
-        all = ap (λ (n : ℕ). length (t.members tree n)) root ∙ ap length sound.root ∙ length_below p []
+        all = ap (λ (n : ℕ). length (t.members tree n)) root ∙ ap length sound.root ∙ length_below p [] ∙ (let z : p + 0 ≡ p = omega arith in z)
           where
             length_below : (q : ℕ) (more : List ℕ) → length (t.below q more) ≡ q + length more
-            length_below zero more = refl
+            length_below zero more = let e : length more ≡ 0 + length more = omega arith in e
             length_below (suc q) more = let ih = length_below q (q ∷ more) in omega arith
 
         place : new.places h ≡ (if is_member h (t.members tree 0) then place_in (tree.places h) (steps.first (tree.places h)) (first_part count h) else tree.places h)
@@ -378,7 +387,7 @@ module _ (core : List CoreOp) (tree : Tree) (actors : List Actor) (p : ℕ) (sou
     enters_none by.Fork vs e = ap (λ i. entered_mode (enters by.Fork i)) e
     enters_none by.IfElse vs e = absurd (some_of (last vs == 0) e)
       where
-        some_of : (b : Bool) → (if b then Some 1 else Some 0) ≡ None → ⊥
+        some_of : (b : Bool) → (if◌then◌else◌ {A = Option ℕ} b (Some 1) (Some 0)) ≡ None → ⊥
         some_of true e = cc
         some_of false e = cc
 
@@ -480,15 +489,12 @@ module _ (core : List CoreOp) (tree : Tree) (actors : List Actor) (p : ℕ) (sou
             enters_some by (values (processor_of a.runner.processor)) i some
             ∙ sym (kind_at h (steps.first (tree.places h) + i) (node_of (filter (λ k. is_in (steps.first (tree.places h) + i - steps.first (tree.places h)) (part by (values (who (actings_of core actors) k)))) (t.members tree (tree.places h))) (tree.places h) Lockstep) there (node ∙ made)
                 ∙ ap mode_of (kept_kind (λ k. is_in (steps.first (tree.places h) + i - steps.first (tree.places h)) (part by (values (who (actings_of core actors) k)))) (t.members tree (tree.places h)) h (tree.places h) Lockstep has passes))
-          where
-            diff : (f i : ℕ) → (f + i - f == i) ≡ true
-            diff f i = grind arith
 
     -- ---- all steps
 
     resumed : (g : ℕ) → resumed_mode (g == 0) ≡ mode_of (Some (t.kind_after g))
     resumed zero = refl
-    resumed (suc g) = refl
+    resumed (suc g) = ap resumed_mode (not_zero g)
 
     -- the mode after a step, of a member
     by_step : (h : ℕ) (a : Actor) (operation : Operation) → slice_get actors h ≡ Some a → (processor_of a.runner.processor).number ≡ h → known.does (tree.places h) ≡ Some operation → StepFits tree (tree.places h) operation

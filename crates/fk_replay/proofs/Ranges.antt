@@ -8,8 +8,10 @@ use Rattle.fk_trace.specs.Text.{Range}
 use Rattle.fk_meaning.specs.Round.{Round}
 use Rattle.fk_replay_text.specs.Trace as trace
 use Rattle.fk_replay_text.specs.Rounds.{count_in, counts_from}
-use Rattle.fk_replay_phases.specs.Present.{AreNone, present}
-use Rattle.fk_replay.specs.Ranges.{with_range}
+use Rattle.fk_tree.specs.Tree.{Tree}
+use Rattle.fk_replay_phases.specs.Present.{AreNone, present, all_acting, acting_at}
+use Rattle.fk_replay_phases.specs.declared.acting.Acting.{Acting}
+use Rattle.fk_replay.specs.Ranges.{AreRanges, with_range}
 
 none_present : (n : ℕ) (round : Round) → ((g : ℕ) → slice_index round g ≡ 0) → present n round ≡ []
 none_present n [] none = refl
@@ -53,7 +55,7 @@ length_with r first (c ∷ counts) = ap suc (length_with r (suc first) counts)
 
 pub index_of : (r : Range) (counts : List ℕ) (k : ℕ) → k < length counts
     → slice_index (with_range r 0 counts) k ≡ (if nat_le r.first k && nat_le k r.last then r.number else slice_index counts k)
-index_of r counts k lt = index_with r 0 counts k lt
+index_of r counts k lt = index_with r 0 counts k lt ∙ ap (λ (h : ℕ). if nat_le r.first h && nat_le h r.last then r.number else slice_index counts k) (let e : 0 + k ≡ k = omega arith in e)
 
 -- ---- all ranges
 
@@ -159,8 +161,8 @@ range_present r old number counts at lt some = by_count r.number refl
         ap (λ (k : ℕ). present 0 (set counts number k)) e ∙ present_set 0 number c counts (omega arith) at.behind
         ∙ ap (λ (k : ℕ). present 0 counts ++ k ∷ []) (let z : 0 + number ≡ number = omega arith in z)
 
-pub range_end : (r : Range) (old : List ℕ) (number : ℕ) (counts : List ℕ) → RangeAt r old number counts → r.last < number → ((h : ℕ) → r.first ≤ h → slice_index old h ≡ 0) → counts ≡ with_range r 0 old
-range_end r old number counts at over none =
+pub range_end : (r : Range) (old : List ℕ) (number : ℕ) (counts : List ℕ) → RangeAt r old number counts → r.first ≤ number → r.last < number → ((h : ℕ) → r.first ≤ h → slice_index old h ≡ 0) → counts ≡ with_range r 0 old
+range_end r old number counts at low over none =
     same_numbers counts (with_range r 0 old) (at.many ∙ sym (length_with r 0 old)) (λ h lt. by_le h lt (lt_or h number))
   where
     lt_or : (h n : ℕ) → (h < n) ⊎ (n ≤ h)
@@ -293,3 +295,21 @@ enlists_end harts ranges i counts at le =
     value : (h : ℕ) → (h < at.bound) ⊎ (at.bound ≤ h) → slice_index counts h ≡ count_in ranges h
     value h (inl less) = at.counts_to.before h less
     value h (inr over) = at.counts_to.behind h over ∙ sym (at.counts_to.rest h over ∙ ap (λ rs. count_in rs h) (drop_all i ranges le))
+
+-- ---- those who are enlisted
+
+pub acting_more : (tree : Tree) (acting more : List Acting) (x : Acting) (counts new : List ℕ) (number : ℕ) → acting ≡ all_acting tree (present 0 counts) → more ≡ acting ++ x ∷ [] → x ≡ acting_at tree number
+    → present 0 new ≡ present 0 counts ++ number ∷ [] → more ≡ all_acting tree (present 0 new)
+acting_more tree acting more x counts new number is made x_is numbers =
+    made ∙ ap (λ xs. xs ++ x ∷ []) is ∙ ap (λ y. all_acting tree (present 0 counts) ++ y ∷ []) x_is
+    ∙ sym (ap (all_acting tree) numbers ∙ all_append (present 0 counts))
+  where
+    all_append : (ns : List ℕ) → all_acting tree (ns ++ number ∷ []) ≡ all_acting tree ns ++ acting_at tree number ∷ []
+    all_append [] = refl
+    all_append (n ∷ ns) = ap (λ xs. acting_at tree n ∷ xs) (all_append ns)
+
+pub none_acting : (tree : Tree) (counts : List ℕ) (n : ℕ) → AreNone n counts → [] ≡ all_acting tree (present 0 counts)
+none_acting tree counts n none = sym (ap (all_acting tree) (none_present 0 counts none.none))
+
+pub ranges_rise : (harts : ℕ) (ranges : List Range) → AreRanges harts ranges → trace.Rise Counts harts None ranges
+ranges_rise harts ranges are = are.1

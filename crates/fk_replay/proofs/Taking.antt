@@ -27,12 +27,13 @@ use Rattle.fk_replay.specs.Steady.{IsSteady}
 use Rattle.fk_replay.specs.Taken.{state_of, IsRun, set_in, IsDone, IsStoppedBy, IsNeither}
 use Rattle.fk_replay.proofs.Composed.{Asked, result_is, together, joints_up_to, is_it_possible, not_begun, not_fitting, not_stopping}
 
+abbrev made : Store → Tree → List (Runner Position) → State Position
+made st tree rs = record { store = st; tree = tree; runners = rs; fault = None }
+
 state_is : (a b : Store) (m n : Tree) (rs qs : List (Runner Position)) → a ≡ b → m ≡ n → rs ≡ qs
-    → record { store = a; tree = m; runners = rs; fault = None } ≡ record { store = b; tree = n; runners = qs; fault = None }
+    → ◌≡◌ {A = State Position} (record { store = a; tree = m; runners = rs; fault = None }) (record { store = b; tree = n; runners = qs; fault = None })
 state_is a b m n rs qs e f g =
-    ap (λ (x : Store). record { store = x; tree = m; runners = rs; fault = None }) e
-    ∙ ap (λ (x : Tree). record { store = b; tree = x; runners = rs; fault = None }) f
-    ∙ ap (λ (x : List (Runner Position)). record { store = b; tree = n; runners = x; fault = None }) g
+    ap (λ (x : Store). made x m rs) e ∙ ap (λ (x : Tree). made b x rs) f ∙ ap (λ (x : List (Runner Position)). made b n x) g
 
 module _ (core : List CoreOp) (round : Round) (old : Run) where
   pub record Sizes (new : Run) : Type 0 where

@@ -52,9 +52,9 @@ module _ (core : List CoreOp) (round : Round) (old new : Run) where
     pub given : (tree_of new.tree).given ≤ (tree_of old.tree).given + 2 ^ 28
 
   -- the round is stopped by a fault, and the store is as it left it
-  pub record IsStoppedBy (fault : Fault) : Type 0 where
+  pub record IsStoppedBy (by : Fault) : Type 0 where
     pub stopped : IsStopped (next core) set_in round (state_of old)
-    pub fault : (result (next core) set_in round (state_of old)).fault ≡ Some (fault_of core fault)
+    pub fault : (result (next core) set_in round (state_of old)).fault ≡ Some (fault_of core by)
     pub store : store_of new.store ≡ (result (next core) set_in round (state_of old)).store
     pub pace : new.pace ≡ old.pace
     pub numbers : numbers_of new.acting.items ≡ present 0 round

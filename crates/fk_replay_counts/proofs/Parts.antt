@@ -1,20 +1,18 @@
 -- A round and its parts: the first operations of those who have more than one, and all others.
-use Rattle.std.proofs.Common.{◌≡◌, ℕ, zero, suc, ◌<◌, ◌≤◌, ◌==◌, ◌&&◌, Bool, true, false, true≢false, List, [], ◌∷◌, map, Option, Some, None, nat_lt, is_some, is_none, refl, sym, ap, ap₂, ◌∙◌, subst, arith}
+use Rattle.std.proofs.Common.{◌≡◌, ℕ, zero, suc, ◌==◌, ◌&&◌, Bool, true, false, true≢false, List, [], ◌∷◌, map, Option, Some, None, nat_lt, is_some, is_none, refl, sym, ap, ap₂, ◌∙◌, subst, arith}
 use Rattle.std.specs.Prelude.{slice_index}
 use Rattle.std.specs.List.{list_all}
 use Rattle.std.proofs.lemmas.Bool.{and_parts, and_from, ltb-true, lt-ltb, eqb-true, eq-eqb}
 use Rattle.fk_meaning_operation.specs.Kinds.{class_of, joint_of}
 use Rattle.fk_meaning_operation.specs.declared.operation.Operation.{Operation}
 use Rattle.fk_meaning_operation.specs.declared.operation.Operation.TheVariants as o
-use Rattle.fk_meaning_operation.specs.declared.kinds.Class.{Class}
-use Rattle.fk_meaning_operation.specs.declared.kinds.Class.TheVariants.{Local, Request, Tree}
 use Rattle.fk_meaning_operation.specs.declared.kinds.Joint.{Joint}
 use Rattle.fk_meaning_operation.specs.declared.kinds.Joint.TheVariants.{Alone, Starting, AtBarrier, Closing, Resuming}
 use Rattle.fk_tree.specs.declared.node.Kind.{Kind}
 use Rattle.fk_tree.specs.declared.node.Kind.TheVariants.{Lockstep, Waiting, Asynchronous}
 use Rattle.fk_tree.specs.Tree as t
 use Rattle.fk_meaning.specs.Processor.{Setting}
-use Rattle.fk_meaning.specs.Round.{Step, Runner, State, Round, Acting, joint_due, joint_at, same_joint, body_of, all_do, joins, fits_kind, fits, all_fit, is_local, after_one, after_locals, begin, begin_all, result, is_local_next, are_local, may_act, all_may_act, is_allowed, is_possible, tree_phase, all_requests, all_locals}
+use Rattle.fk_meaning.specs.Round.{Step, Runner, State, Round, Acting, joint_due, joint_at, same_joint, body_of, all_do, joins, fits_kind, fits, all_fit, is_local, after_one, after_locals, begin, begin_all, result, is_local_next, are_local, may_act, all_may_act, is_allowed, is_possible}
 use Rattle.fk_replay_counts.specs.Counts.{first_of, others_of, firsts, others}
 use Rattle.fk_replay_counts.proofs.Quiet.{AreQuiet, advanced, gone_on, quiet_result}
 
@@ -257,10 +255,10 @@ module _ {W : Type 0} (next : W → Option (Step W)) (set : Setting) where
       let fits' = others_fit round joints s.tree 0 round both.1 in
       record {
         possible = and_from (is_none s.fault && is_allowed next set (firsts round) s) (is_none (result next set (firsts round) s).fault)
-        (and_from (is_none s.fault) (is_allowed next set (firsts round) s) (ap is_none running) first_allowed)
-        (ap (λ (x : State W). is_none x.fault) after);
+            (and_from (is_none s.fault) (is_allowed next set (firsts round) s) (ap is_none running) first_allowed)
+            (ap (λ (x : State W). is_none x.fault) after);
         after = after;
         allowed = and_from (all_may_act next set (others round) qs) (all_fit (others round) (joint_at (begin_all next set (others round) qs)) s.tree 0 (others round))
-        (others_may_all round s.runners both.0)
-        (subst (λ (actings : List (Acting W)). all_fit (others round) (joint_at actings) s.tree 0 (others round) ≡ true) (sym (same_begins round s.runners)) fits');
+            (others_may_all round s.runners both.0)
+            (subst (λ (actings : List (Acting W)). all_fit (others round) (joint_at actings) s.tree 0 (others round) ≡ true) (sym (same_begins round s.runners)) fits');
       }

@@ -1,5 +1,5 @@
 -- Rounds of local operations alone.
-use Rattle.std.proofs.Common.{◌≡◌, ℕ, zero, suc, Bool, true, false, true≢false, ◌&&◌, List, [], ◌∷◌, map, Option, Some, None, refl, sym, ap, ap₂, ◌∙◌, subst}
+use Rattle.std.proofs.Common.{◌≡◌, ℕ, zero, suc, true, true≢false, List, [], ◌∷◌, map, Option, Some, None, refl, sym, ap, ap₂, ◌∙◌}
 use Rattle.std.proofs.lemmas.Bool.{and_parts}
 use Rattle.fk_meaning_operation.specs.Kinds.{class_of}
 use Rattle.fk_meaning_operation.specs.declared.kinds.Class.{Class}
@@ -7,7 +7,7 @@ use Rattle.fk_meaning_operation.specs.declared.kinds.Class.TheVariants.{Local, R
 use Rattle.fk_meaning_store.specs.Store.{Store}
 use Rattle.fk_tree.specs.Tree as t
 use Rattle.fk_meaning.specs.Processor.{Setting}
-use Rattle.fk_meaning.specs.Round.{Step, Runner, State, Round, Acting, Phases, taking, all_requests, all_changes, settled, tree_phase, is_local, do_local, local_phase, after_one, after_locals, begin, begin_all, asking, result, is_local_next, are_local}
+use Rattle.fk_meaning.specs.Round.{Step, Runner, State, Round, Acting, Phases, taking, all_requests, all_changes, settled, tree_phase, is_local, do_local, local_phase, after_one, after_locals, begin, asking, result, is_local_next, are_local}
 
 module _ {W : Type 0} (next : W → Option (Step W)) (set : Setting) where
   -- each processor has a count, and that many local operations are next

@@ -1,18 +1,16 @@
 -- Rounds, and whole schedules, as rounds of single operations.
-use Rattle.std.proofs.Common.{◌≡◌, ⊎_elim, ℕ, zero, suc, ◌<◌, ◌≤◌, ◌&&◌, Bool, true, false, true≢false, List, [], ◌∷◌, ◌++◌, map, Option, Some, None, nat_lt, is_none, refl, sym, ap, ap₂, ◌∙◌, subst, arith}
+use Rattle.std.proofs.Common.{◌≡◌, ℕ, zero, suc, ◌≤◌, ◌&&◌, true, List, [], ◌∷◌, ◌++◌, Option, None, is_none, refl, sym, ap, ◌∙◌, subst, arith}
 use Rattle.std.specs.Prelude.{slice_index}
 use Rattle.std.proofs.lemmas.Bool.{and_parts, and_from, ltb-true}
-use Rattle.fk_meaning_store.specs.Store.{Store}
-use Rattle.fk_tree.specs.Tree as t
 use Rattle.fk_meaning.specs.Processor.{Setting}
-use Rattle.fk_meaning.specs.Round.{Step, Runner, State, Fault, Round, Acting, local_phase, begin_all, asking, all_locals, all_requests, tree_phase, all_fit, joint_at, result, may_act, all_may_act, is_allowed, is_possible}
-use Rattle.fk_meaning.specs.Schedule.{Schedule, run, ArePossible}
+use Rattle.fk_meaning.specs.Round.{Step, Runner, State, Fault, Round, Acting, begin_all, asking, all_locals, all_requests, tree_phase, all_fit, joint_at, result, may_act, all_may_act, is_allowed, is_possible}
+use Rattle.fk_meaning.specs.Schedule.{Schedule, run}
 use Rattle.fk_lockstep_tree.specs.Rounds.{IsSingle}
 use Rattle.fk_lockstep_tree.specs.Runs.{AreSingle}
 use Rattle.fk_lockstep_tree.proofs.Runs.{AllPossible, run-append, all_are, are_all, fault_none, running}
-use Rattle.fk_replay_counts.specs.Counts.{first_of, others_of, firsts, others, earlier, last, earlier_in, last_in, singles, IsSplit, RoundsAreSplit, IsSameBySingles, SchedulesAreSingle}
-use Rattle.fk_replay_counts.proofs.Quiet.{advanced, gone_on}
-use Rattle.fk_replay_counts.proofs.Parts.{first_at, others_at, MayAct, may_parts, may_both, same_begins, untrue, Divided, divided}
+use Rattle.fk_replay_counts.specs.Counts.{first_of, others_of, firsts, others, earlier, last, earlier_in, last_in, singles, IsSplit, RoundsAreSplit, SchedulesAreSingle}
+use Rattle.fk_replay_counts.proofs.Quiet.{gone_on}
+use Rattle.fk_replay_counts.proofs.Parts.{first_at, others_at, may_parts, may_both, same_begins, untrue, divided}
 
 -- single counts
 first_single : (c : ℕ) → first_of c ≤ 1
@@ -125,7 +123,7 @@ module _ {W : Type 0} (next : W → Option (Step W)) (set : Setting) where
       record {
         earlier = are_all next set (earlier_in round) s x.possible going;
         last = and_from (is_none u.fault && is_allowed next set (last_in round) u) (is_none (result next set (last_in round) u).fault)
-        (and_from (is_none u.fault) (is_allowed next set (last_in round) u) (ap is_none going) x.allowed) (ap is_none ends);
+            (and_from (is_none u.fault) (is_allowed next set (last_in round) u) (ap is_none going) x.allowed) (ap is_none ends);
         same = x.same;
       }
 

@@ -1,12 +1,11 @@
 -- What holds after every schedule of possible rounds.
-use Rattle.std.proofs.Common.{◌≡◌, ℕ, ◌≤◌, true, List, [], ◌∷◌, ◌++◌, Option, Some, None, refl, sym, ap, ◌∙◌, subst}
+use Rattle.std.proofs.Common.{◌≡◌, ℕ, ◌≤◌, true, List, [], ◌∷◌, ◌++◌, Option, None, refl, sym, ap, ◌∙◌, subst}
 use Rattle.std.specs.Prelude.{slice_index}
 use Rattle.fk_space.specs.Space.{IsSpace}
-use Rattle.fk_tree.specs.Tree as t
 use Rattle.fk_meaning_store.specs.Store.{Store}
 use Rattle.fk_meaning.specs.Processor.{Setting, setting_of, group_space}
-use Rattle.fk_meaning.specs.Round.{Step, Runner, State, Round, Acting, asking, all_requests, result, is_possible}
-use Rattle.fk_meaning.specs.Schedule.{Schedule, opening, run, ArePossible}
+use Rattle.fk_meaning.specs.Round.{Step, State, Round, Acting, asking, all_requests, result, is_possible}
+use Rattle.fk_meaning.specs.Schedule.{Schedule, opening, run}
 use Rattle.fk_lockstep_nodes.specs.Steps.{stepping}
 use Rattle.fk_lockstep_tree.specs.Steps.{AreKnown}
 use Rattle.fk_lockstep_tree.specs.Runs.{StandsInTree, AlwaysInTree}
@@ -87,5 +86,10 @@ pub runs_are_steady : (W X : Type 0) → RunsAreSteady W X
 runs_are_steady W X next place program always processors globals firsts input schedule some space possible none =
     steady next place program always processors globals firsts input some space (run next (setting_of processors globals input) schedule
     (opening processors globals input (slice_index firsts) program))
-    (record { schedule = schedule; possible = are_all next (setting_of processors globals input) schedule
-    (opening processors globals input (slice_index firsts) program) possible none; is = refl; going = none })
+    (record {
+      schedule = schedule;
+      possible = are_all next (setting_of processors globals input) schedule
+          (opening processors globals input (slice_index firsts) program) possible none;
+      is = refl;
+      going = none;
+    })

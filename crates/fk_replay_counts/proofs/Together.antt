@@ -1,11 +1,10 @@
 -- A group in lockstep does a local operation: all its members do, and they stay together.
-use Rattle.std.proofs.Common.{◌≡◌, ◌≢◌, ℕ, zero, suc, ◌+◌, ◌<◌, ◌==◌, ◌&&◌, ◌||◌, Bool, true, false, true≢false, List, [], ◌∷◌, length, slice_get, Option, Some, None, is_some, is_none, refl, sym, ap, ap₂, ◌∙◌, subst, subst₂, arith, if◌then◌else◌}
+use Rattle.std.proofs.Common.{◌≡◌, ℕ, zero, suc, ◌+◌, ◌<◌, ◌==◌, ◌&&◌, ◌||◌, Bool, true, false, List, [], ◌∷◌, length, slice_get, Option, Some, None, is_some, is_none, refl, sym, ap, ◌∙◌, subst, arith}
 use Rattle.std.specs.Prelude.{slice_index}
 use Rattle.std.specs.List.{list_all}
 use Rattle.std.proofs.lemmas.Bool.{and_parts, and_from, eqb-true, eq-eqb}
 use Rattle.fk_tree.specs.declared.node.Kind.{Kind}
 use Rattle.fk_tree.specs.declared.node.Kind.TheVariants.{Lockstep}
-use Rattle.fk_tree.specs.Tree as t
 use Rattle.fk_tree.specs.Tree.{Tree, members, is_member, kind}
 use Rattle.fk_tree.specs.Sound.{Has, IsSound}
 use Rattle.fk_tree.proofs.Shapes.{has_some}
@@ -15,9 +14,8 @@ use Rattle.fk_meaning.specs.Processor.{Setting}
 use Rattle.fk_meaning.specs.Round.{Step, Runner, State, Round, joint_at, fits_kind, fits, all_fit, after_one, after_locals, begin_all, result, is_local_next, are_local, may_act, all_may_act, is_allowed, is_possible}
 use Rattle.fk_meaning.specs.Schedule.{Schedule, run}
 use Rattle.fk_lockstep.specs.OneProgram.{HaveOneProgram}
-use Rattle.fk_lockstep.proofs.Round.{at_below}
 use Rattle.fk_replay_counts.proofs.Quiet.{AreQuiet, advanced, gone_on, quiet_result}
-use Rattle.fk_replay_counts.proofs.Parts.{MayAct, may_parts, may_from, local_is_due}
+use Rattle.fk_replay_counts.proofs.Parts.{may_parts, may_from, local_is_due}
 
 -- all members of a lockstep group are placed there
 pub group_place : (p n : ℕ) (tree : Tree) → IsSound p tree → kind tree n ≡ Some Lockstep → (h : ℕ) → Has tree n h → tree.places h ≡ n
@@ -148,10 +146,10 @@ module _ {W : Type 0} (next : W → Option (Step W)) (set : Setting) where
       record {
         round = round;
         possible = and_from (is_none s.fault && is_allowed next set round s) (is_none (result next set round s).fault)
-        (and_from (is_none s.fault) (is_allowed next set round s) (ap is_none none)
-        (and_from (all_may_act next set round s.runners) (all_fit round joints s.tree 0 round) (turns_may ms 0 s.runners all)
-        (fit_from p n s.tree sound is s.runners many joints 0 s.runners)))
-        (ap (λ (x : State W). is_none x.fault) after);
+            (and_from (is_none s.fault) (is_allowed next set round s) (ap is_none none)
+            (and_from (all_may_act next set round s.runners) (all_fit round joints s.tree 0 round) (turns_may ms 0 s.runners all)
+            (fit_from p n s.tree sound is s.runners many joints 0 s.runners)))
+            (ap (λ (x : State W). is_none x.fault) after);
         after = after;
         at = λ h r has there. advance_at ms 0 h s.runners r there (from_zero ms h has);
       }

@@ -1,5 +1,5 @@
 -- Rounds with counts, divided into rounds in which each processor does at most one operation.
-use Rattle.std.specs.Prelude.{◌≡◌, ℕ, zero, suc, true, List, [], ◌∷◌, ◌++◌, map, Option, None}
+use Rattle.std.specs.Prelude.{◌≡◌, ℕ, zero, suc, true, [], ◌∷◌, ◌++◌, map, Option, None}
 use Rattle.fk_meaning.specs.Processor.{Setting}
 use Rattle.fk_meaning.specs.Round.{Step, State, Round, asking, result, is_allowed}
 use Rattle.fk_meaning.specs.Schedule.{Schedule, run, ArePossible}

@@ -1,5 +1,5 @@
 -- An operation that may be done has a request that can be served.
-use Rattle.std.proofs.Common.{◌≡◌, ℕ, Bool, true, refl}
+use Rattle.std.proofs.Common.{◌≡◌, true, refl}
 use Rattle.std.specs.Prelude.{is_some}
 use Rattle.std.proofs.lemmas.Bool.{and_from}
 use Rattle.fk_meaning_operation.specs.declared.operation.Multiprefix.{Multiprefix}
@@ -8,7 +8,6 @@ use Rattle.fk_meaning_operation.specs.declared.operation.Operation.{Operation}
 use Rattle.fk_meaning_operation.specs.declared.operation.Operation.TheVariants as o
 use Rattle.fk_meaning_operation.specs.Kinds.{multiprefix_kind, multiprefix_of}
 use Rattle.fk_meaning_store.specs.Serve.{can_serve, may_use}
-use Rattle.fk_meaning.specs.Processor.{values, last}
 use Rattle.fk_meaning.specs.Request.{address, request}
 use Rattle.fk_meaning.specs.Round.{Runner}
 use Rattle.fk_core.specs.Next.{Position}

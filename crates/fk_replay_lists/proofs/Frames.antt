@@ -1,16 +1,14 @@
 -- A call that ends can give back its frames.
-use Rattle.std.proofs.Common.{◌≡◌, ℕ, zero, suc, ◌+◌, ◌≤◌, Bool, true, false, true≢false, List, [], ◌∷◌, ◌++◌, length, slice_get, Option, Some, None, is_some, refl, sym, ap, ◌∙◌, subst, arith}
-use Rattle.fk_num.specs.Word.{Memory}
-use Rattle.fk_space.specs.Space.{Space, IsSpace}
+use Rattle.std.proofs.Common.{◌≡◌, ℕ, zero, suc, ◌+◌, ◌≤◌, Bool, true, false, true≢false, List, ◌∷◌, ◌++◌, length, slice_get, Option, Some, None, is_some, refl, sym, ap, ◌∙◌, subst, arith}
 use Rattle.fk_meaning_operation.specs.declared.operation.Operation.{Operation}
 use Rattle.fk_meaning_operation.specs.declared.operation.Operation.TheVariants as o
 use Rattle.fk_meaning.specs.Processor.{Processor, Setting}
 use Rattle.fk_meaning.specs.Round.{Step, Runner}
 use Rattle.fk_core.specs.declared.op.CoreOp.{CoreOp}
-use Rattle.fk_core.specs.Next.{Position, is_jump, through, led_by, landing_by, landing, next}
-use Rattle.fk_lockstep_frames.specs.Nests.{Nest, OfFunction, taken, words_in}
-use Rattle.fk_lockstep_frames.specs.Taken.{HasTaken, AreTaken, AreBegun, HasNests, spaces_of, frames_of, lows_of}
-use Rattle.fk_lockstep_frames.specs.Lists.{nests_of, told, GoesOn, HasLocalFrames, HasToldFrames}
+use Rattle.fk_core.specs.Next.{Position, is_jump, through, led_by, landing_by, landing}
+use Rattle.fk_lockstep_frames.specs.Nests.{Nest, OfFunction, taken}
+use Rattle.fk_lockstep_frames.specs.Taken.{HasNests}
+use Rattle.fk_lockstep_frames.specs.Lists.{nests_of, GoesOn, HasLocalFrames, HasToldFrames}
 use Rattle.fk_lockstep_frames.proofs.Found.{Found}
 use Rattle.fk_replay_steps.specs.Steps.{CanGiveBack, GivesBack}
 
@@ -40,15 +38,17 @@ module _ (core : List CoreOp) (main : ℕ) (local : HasLocalFrames core main) wh
   -- jumps lead to where the nests are the same
   same_by : (jumps i : ℕ) → local.nests (landing_by core jumps i) ≡ local.nests i
   same_by zero i = refl
-  same_by (suc jumps) i = by (slice_get core i) refl
+  same_by (suc jumps) i = by (λ j. same_by jumps j) (slice_get core i) refl
     where
-      jump : (op : CoreOp) → slice_get core i ≡ Some op → (b : Bool) → is_jump op ≡ b → local.nests (through b (landing_by core jumps) i op.target) ≡ local.nests i
-      jump op is true e = let leads = local.jumps i op is e in same_by jumps op.target ∙ leads.nested
-      jump op is false e = refl
+      jump : ((j : ℕ) → local.nests (landing_by core jumps j) ≡ local.nests j) → (op : CoreOp) → slice_get core i ≡ Some op → (b : Bool) → is_jump op ≡ b
+          → local.nests (through b (landing_by core jumps) i op.target) ≡ local.nests i
+      jump more op is true e = let leads = local.jumps i op is e in more op.target ∙ leads.nested
+      jump more op is false e = refl
 
-      by : (slot : Option CoreOp) → slice_get core i ≡ slot → local.nests (led_by slot (landing_by core jumps) i) ≡ local.nests i
-      by None is = refl
-      by (Some op) is = jump op is (is_jump op) refl
+      by : ((j : ℕ) → local.nests (landing_by core jumps j) ≡ local.nests j) → (slot : Option CoreOp) → slice_get core i ≡ slot
+          → local.nests (led_by slot (landing_by core jumps) i) ≡ local.nests i
+      by more None is = refl
+      by more (Some op) is = jump more op is (is_jump op) refl
 
   same_nests : (i : ℕ) → local.nests (landing core i) ≡ local.nests i
   same_nests i = same_by (length core) i

@@ -1,8 +1,7 @@
 -- The lists of programs can be replayed.
-use Rattle.std.proofs.Common.{ℕ, List, sym, subst}
+use Rattle.std.proofs.Common.{sym, subst}
 use Rattle.fk_meaning_forms.specs.Program.{main_of}
 use Rattle.fk_layout.specs.Layout.{tables_by}
-use Rattle.fk_core.specs.declared.op.CoreOp.{CoreOp}
 use Rattle.fk_lockstep_frames.specs.Lists.{HasLocalFrames}
 use Rattle.fk_compile.proofs.Trees.{programs_stay_in_trees}
 use Rattle.fk_replay.specs.Replay.{IsOrderly}

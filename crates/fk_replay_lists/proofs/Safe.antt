@@ -1,6 +1,5 @@
 -- The processors of each state of a run are safe.
-use Rattle.std.proofs.Common.{◌≡◌, ℕ, ◌+◌, ◌≤◌, ◌^◌, true, List, ◌++◌, length, slice_get, Option, Some, None, refl, sym, ap, ◌∙◌, subst}
-use Rattle.fk_num.specs.Limits.{most_data_words}
+use Rattle.std.proofs.Common.{◌≡◌, ℕ, ◌+◌, List, ◌++◌, slice_get, Some, sym, ap, ◌∙◌, subst}
 use Rattle.fk_space.specs.Space.{IsSpace}
 use Rattle.fk_meaning.specs.Processor.{Setting, setting_of, group_space}
 use Rattle.fk_meaning.specs.Round.{Step, Runner, State, after_locals}

@@ -5,7 +5,7 @@ use Rattle.fk_tree.specs.Tree as t
 use Rattle.fk_tree.specs.Tree.{Tree, is_member}
 use Rattle.fk_tree.specs.Sound.{IsSound}
 use Rattle.fk_meaning.specs.Round.{lowest, highest}
-use Rattle.fk_replay_phases.specs.Present.{AreBelow, acting_at}
+use Rattle.fk_replay_phases.specs.Present.{AreBelow, acting_at, all_acting}
 use Rattle.fk_replay_phases.specs.declared.acting.Acting.{Acting}
 
 pub none : (xs : List ℕ) → length xs ≡ 0 → 0 ≡ highest xs
@@ -64,3 +64,13 @@ highest_below p h tree sound lt =
 -- the lowest member of the node of one who acts
 pub acting_low : (p : ℕ) (tree : Tree) (x : Acting) → IsSound p tree → x.number < p → x ≡ acting_at tree x.number → x.lowest < p
 acting_low p tree x sound lt is = subst (λ (k : ℕ). k < p) (sym (ap (λ (y : Acting). y.lowest) is)) (lowest_below p x.number tree sound lt)
+
+-- an element of a list that is told by its numbers
+pub element_at : (xs : List Acting) (i : ℕ) (x : Acting) (tree : Tree) (ns : List ℕ) → xs ≡ all_acting tree ns → i < length xs → x ≡ get_or xs i x → x ≡ acting_at tree x.number
+element_at [] i x tree ns e lt is = absurd (let z : ⊥ = omega arith in z)
+element_at (y ∷ ys) i x tree [] e lt is = absurd (let bad : y ∷ ys ≡ [] = e in cc)
+element_at (y ∷ ys) zero x tree (n ∷ ns) e lt is =
+    let head : y ≡ acting_at tree n = cc in
+    let x_is : x ≡ acting_at tree n = is ∙ head in
+    x_is ∙ ap (λ (z : Acting). acting_at tree z.number) (sym x_is)
+element_at (y ∷ ys) (suc i) x tree (n ∷ ns) e lt is = let tail : ys ≡ all_acting tree ns = cc in element_at ys i x tree ns tail (omega arith) is

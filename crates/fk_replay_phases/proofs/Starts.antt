@@ -79,7 +79,7 @@ module _ (core : List CoreOp) (setting : Setting) where
       let one_more : count ≡ suc k = omega arith in
       let none : are_local (next core) setting k (runner_of old.runner) ≡ false = sym has.whether ∙ is in
       with_count count k old new false one_more (not_begun k old new
-          (ap (λ (b : Bool). b && (are_local (next core) setting k (runner_of old.runner) && is_some (next core (after_locals (next core) setting k (runner_of old.runner)).left))) (few_of k (omega arith))
+          (ap (λ (b : Bool). (b && are_local (next core) setting k (runner_of old.runner)) && is_some (next core (after_locals (next core) setting k (runner_of old.runner)).left)) (few_of k (omega arith))
           ∙ ap (λ (b : Bool). b && is_some (next core (after_locals (next core) setting k (runner_of old.runner)).left)) none))
 
   -- all but the last of the operations are done
@@ -99,7 +99,7 @@ module _ (core : List CoreOp) (setting : Setting) where
 
   may_by : (count k : ℕ) (old : Actor) (mid : Runner) → Behind count k old mid → may_act (next core) setting (suc k) (runner_of old.runner) ≡ is_some (next core (runner_of mid).left)
   may_by count k old mid b =
-      ap (λ (c : Bool). c && (are_local (next core) setting k (runner_of old.runner) && is_some (next core (after_locals (next core) setting k (runner_of old.runner)).left))) b.few
+      ap (λ (c : Bool). (c && are_local (next core) setting k (runner_of old.runner)) && is_some (next core (after_locals (next core) setting k (runner_of old.runner)).left)) b.few
       ∙ ap (λ (c : Bool). c && is_some (next core (after_locals (next core) setting k (runner_of old.runner)).left)) b.local
       ∙ ap (λ (q : rounds.Runner Position). is_some (next core q.left)) (sym b.is)
 

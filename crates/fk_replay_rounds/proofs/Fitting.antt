@@ -45,7 +45,7 @@ list_all_at P (m ∷ ms) h all is = by (bool_cases (h == m)) (λ later. list_all
 
 -- ---- members
 
-member_lowest : (ms : List ℕ) (h : ℕ) → is_member h ms ≡ true → is_member (lowest ms) ms ≡ true
+pub member_lowest : (ms : List ℕ) (h : ℕ) → is_member h ms ≡ true → is_member (lowest ms) ms ≡ true
 member_lowest [] h is = absurd (let bad : false ≡ true = is in cc)
 member_lowest (m ∷ ms) h is = ap (λ (b : Bool). b || is_member m ms) (eq_to m m refl)
 
@@ -136,7 +136,7 @@ leaf_ready tree n ready = by (t.kind tree n) refl
 
 -- ---- fitting
 
-same_of : (i j : Joint) → same_joint i j ≡ true → j ≡ i
+pub same_of : (i j : Joint) → same_joint i j ≡ true → j ≡ i
 same_of Alone Alone e = refl
 same_of Starting Starting e = refl
 same_of AtBarrier AtBarrier e = refl

@@ -13,7 +13,6 @@ use Rattle.fk_replay_text.specs.Trace.{Told, moments_of}
 use Rattle.fk_replay_text.specs.declared.fault.ReplayFault.{ReplayFault}
 use Rattle.fk_replay_text.specs.declared.fault.ReplayFault.TheVariants.{BadTrace, NotPossible, Pace, Memory}
 use Rattle.fk_replay.specs.declared.end.Replayed.{Replayed}
-use Rattle.fk_replay.specs.Replay.{stand_in}
 use Rattle.fk_replay_schedules.proofs.Lawful.{no_fault}
 use Rattle.fk_sim_rounds.specs.Follows.{StandsAgree}
 use Rattle.fk_compile.specs.Faithful.{firsts_by, words_by}
@@ -42,8 +41,8 @@ traces_are_accepted source program facts image input p n faithful checked within
     let tables = tables_by program facts in
     let words = words_by program facts in
     let firsts = firsts_by program facts in
-    let here = subst (λ (ls : List Told). IsAnswerFor program facts input p (schedule_of p (moments_of ls) (machine image input p n).begun) answer) same.lines
-    (subst (λ (t : ℕ). IsAnswerFor program facts input p (schedule_of p (moments_of lines) t) answer) same.cycles
-    (subst (λ (h : ℕ). IsAnswerFor program facts input h (schedule_of h (moments_of lines) cycles) answer) same.harts is)) in
+    let here = subst (λ (ls : List Told). IsAnswerFor program facts input p (schedule_of p (moments_of ls) (machine image input p n).begun) answer) same.same_lines
+    (subst (λ (t : ℕ). IsAnswerFor program facts input p (schedule_of p (moments_of lines) t) answer) same.same_cycles
+    (subst (λ (h : ℕ). IsAnswerFor program facts input h (schedule_of h (moments_of lines) cycles) answer) same.same_harts is)) in
     accepted (next_of tables program words firsts input p) (setting tables program words firsts input p) (first tables program words firsts input p)
     (schedule_of p (moments_of law.lines) (machine image input p n).begun) (output_of image input p n) (machine image input p n).stand law.lawful law.prints law.agrees answer here

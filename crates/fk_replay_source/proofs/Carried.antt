@@ -1,21 +1,13 @@
 -- An answer for the list of a program is one for the program.
-use Rattle.std.proofs.Common.{◌≡◌, ℕ, suc, ◌+◌, ◌<◌, ◌≤◌, ◌&&◌, true, List, take, length, Option, Some, Result, Ok, Err, is_none, ap, ap₂, ◌∙◌, sym, inl, inr}
-use Rattle.std.specs.Prelude.{slice_get}
-use Rattle.fk_syntax.specs.Program.{ProgramTree}
-use Rattle.fk_meaning_forms.specs.Program.{main_of}
-use Rattle.fk_meaning_forms.specs.Tables.{Tables}
+use Rattle.std.proofs.Common.{◌≡◌, ℕ, ◌+◌, ◌&&◌, take, Option, Ok, Err, is_none, ap, ap₂, ◌∙◌, sym, inl, inr}
 use Rattle.fk_meaning_store.specs.Store.{Store}
 use Rattle.fk_meaning.specs.Processor.{Setting}
 use Rattle.fk_meaning.specs.Round.{Step, State, Round, IsStopped, is_possible}
-use Rattle.fk_meaning.specs.Schedule.{Schedule, CouldAct, IsIn, run}
+use Rattle.fk_meaning.specs.Schedule.{Schedule, CouldAct, run}
 use Rattle.fk_core.proofs.KeepsRuns.{flat_lists_keep_runs}
-use Rattle.fk_replay_text.specs.declared.fault.ReplayFault.{ReplayFault}
 use Rattle.fk_replay_text.specs.declared.fault.ReplayFault.TheVariants.{BadTrace, NotPossible, Pace, Memory}
-use Rattle.fk_replay.specs.declared.end.Replayed.{Replayed}
 use Rattle.fk_replay_schedules.specs.Answers.{IsBad, IsGoodBehind, IsLate, IsNotPossible, IsPassedOver}
-use Rattle.fk_replay.specs.Replay.{IsAnswer}
 use Rattle.fk_replay_source.specs.Alike.{AllowAlike}
-use Rattle.fk_replay_source.specs.Answer.{Answers}
 use Rattle.fk_replay_source.specs.Laws.{AnswersAreCarried}
 use Rattle.fk_replay_source.proofs.Forms.{lists_allow_the_same}
 

@@ -1,5 +1,5 @@
 pub mod Forms
 pub mod Carried
-pub mod Replayed
+pub mod Passed
 pub mod Accepted
-pub mod Listed
+pub mod Known

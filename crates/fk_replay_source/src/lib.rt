@@ -6,10 +6,10 @@
 
 pub mod laws;
 mod listed;
-mod replay;
+mod program;
 
 pub use fk_compile::List;
 pub use fk_compile_text::Built;
 pub use fk_replay::{End, ReplayFault, Replayed, Trace, read_trace};
 pub use listed::{Listed, listed_text};
-pub use replay::replay;
+pub use program::replay;

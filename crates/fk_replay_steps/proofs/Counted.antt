@@ -1,10 +1,10 @@
 -- How many processors are absent, by the remainders of the rounds since which they are.
-use Rattle.std.proofs.Common.{◌≡◌, ℕ, zero, suc, ◌+◌, ◌-◌, ◌%◌, ◌<◌, ◌≤◌, ◌^◌, ◌==◌, ◌⊎◌, Bool, true, false, cond, List, [], ◌∷◌, length, get_or, set, Option, Some, None, refl, sym, ◌∙◌, ap, subst, inl, inr, arith}
+use Rattle.std.proofs.Common.{◌≡◌, ℕ, zero, suc, ◌+◌, ◌-◌, ◌<◌, ◌≤◌, ◌^◌, ◌⊎◌, Bool, true, false, cond, List, [], ◌∷◌, length, get_or, set, Option, Some, None, refl, sym, ◌∙◌, ap, subst, inl, inr, arith}
 use Rattle.std.specs.Prelude.{count_by, is_some, slice_get, slice_index}
-use Rattle.std.proofs.lemmas.List.{length-set, get_or-set_same, get_or-set_other}
+use Rattle.std.proofs.lemmas.List.{length-set, get_or-set_same, get_or-set_other, get_or_default, set_past}
 use Rattle.std.proofs.lemmas.List.Sums.{sum_by-cons, sum_by-set, count_by-le-length}
-use Rattle.std.proofs.lemmas.Option.{slice_get_within, get_or_from_slice_get}
-use Rattle.fk_replay_steps.specs.Pace.{Absences, IsCounted, IsLateNow, has_remainder, if_there, remainder, since}
+use Rattle.std.proofs.lemmas.Option.{slice_get_within, slice_get_past, get_or_from_slice_get}
+use Rattle.fk_replay_steps.specs.Pace.{Absences, IsCounted, begun, IsLateNow, has_remainder, if_there, remainder, since}
 
 abbrev number : Bool → ℕ
 number b = cond b 1 0
@@ -15,7 +15,7 @@ count-set : {X : Type 0} (p : X → Bool) (xs : List X) (i : ℕ) (x y : X) → 
 count-set {X} p xs i x y e =
     let same : get_or xs i y ≡ x = get_or_from_slice_get xs i x y e in
     let moved : count_by p (set xs i y) + number (p (get_or xs i y)) ≡ count_by p xs + number (p y) =
-        sum_by-set (λ z. cond (p z) 1 0) xs i y y (slice_get_within xs i x e) in
+    sum_by-set (λ z. cond (p z) 1 0) xs i y y (slice_get_within xs i x e) in
     subst (λ (z : X). count_by p (set xs i y) + number (p z) ≡ count_by p xs + number (p y)) same moved
 
 none_counted : {X : Type 0} (p : X → Bool) (xs : List X) → count_by p xs ≡ 0
@@ -52,6 +52,11 @@ own_remainder k r is = grind arith
 
 same_or_not : (k j : ℕ) → (k ≡ j) ⊎ (k ≡ j → ⊥)
 same_or_not k j = grind arith
+
+pub read_part : (parts : List ℕ) (k round n : ℕ) → length parts ≡ 256 → k ≡ remainder round → n ≡ get_or parts k n → n ≡ slice_index parts (remainder round)
+read_part parts k round n all is read =
+    let low : k < length parts = omega arith in
+    read ∙ get_or_default parts k n 0 low ∙ ap (λ i. get_or parts i 0) is
 
 -- the parts after one of them is changed
 module _ (absences new : Absences) (parts : List ℕ) (k n : ℕ) where
@@ -90,14 +95,14 @@ one_more absences parts able h round n is e there =
     let was : n ≡ count_by (has_remainder k) absences = there ∙ is.part k within in
     let own : number (has_remainder k (Some round)) ≡ 1 = ap number (own_remainder k round refl) in
     let moved : count_by (has_remainder k) new + 0 ≡ count_by (has_remainder k) absences + number (has_remainder k (Some round)) =
-        count-set (has_remainder k) absences h None (Some round) e in
+    count-set (has_remainder k) absences h None (Some round) e in
     let here : n + 1 ≡ count_by (has_remainder k) new = omega (arith, was, own, moved) in
     let moved_all : count_by is_some new + 0 ≡ count_by is_some absences + 1 = count-set is_some absences h None (Some round) e in
     let all_here : able + 1 ≡ count_by is_some new = omega (arith, all, moved_all) in
     let part_low : count_by (has_remainder k) new ≤ length new = count_by-le-length (has_remainder k) new in
     let all_low : count_by is_some new ≤ length new = count_by-le-length is_some new in
     let others : (j : ℕ) → (k ≡ j → ⊥) → count_by (has_remainder j) new ≡ count_by (has_remainder j) absences =
-        λ j other. omega (arith, count-set (has_remainder j) absences h None (Some round) e, ap number (no_remainder j k round other refl)) in
+    λ j other. omega (arith, count-set (has_remainder j) absences h None (Some round) e, ap number (no_remainder j k round other refl)) in
     record {
       part_fits = omega (arith, here, part_low, length_is, few);
       able_fits = omega (arith, all_here, all_low, length_is, few);
@@ -128,12 +133,12 @@ one_less absences parts able h round n is e there =
     let was : n ≡ count_by (has_remainder k) absences = there ∙ is.part k within in
     let own : number (has_remainder k (Some round)) ≡ 1 = ap number (own_remainder k round refl) in
     let moved : count_by (has_remainder k) new + number (has_remainder k (Some round)) ≡ count_by (has_remainder k) absences + 0 =
-        count-set (has_remainder k) absences h (Some round) None e in
+    count-set (has_remainder k) absences h (Some round) None e in
     let moved_all : count_by is_some new + 1 ≡ count_by is_some absences + 0 = count-set is_some absences h (Some round) None e in
     let here : n - 1 ≡ count_by (has_remainder k) new = omega (arith, was, own, moved) in
     let all_here : able - 1 ≡ count_by is_some new = omega (arith, all, moved_all) in
     let others : (j : ℕ) → (k ≡ j → ⊥) → count_by (has_remainder j) new ≡ count_by (has_remainder j) absences =
-        λ j other. omega (arith, count-set (has_remainder j) absences h (Some round) None e, ap number (no_remainder j k round other refl)) in
+    λ j other. omega (arith, count-set (has_remainder j) absences h (Some round) None e, ap number (no_remainder j k round other refl)) in
     record {
       part_some = omega (arith, was, own, moved);
       able_some = omega (arith, all, moved_all);
@@ -144,6 +149,27 @@ one_less absences parts able h round n is e there =
         all = all_here;
       };
     }
+
+-- ---- what begins
+
+since_there : (absences : Absences) (h : ℕ) (x : Option ℕ) → slice_get absences h ≡ Some x → since absences h ≡ x
+since_there absences h x e = ap if_there e
+
+pub begun_past : (absences : Absences) (h round : ℕ) → length absences ≤ h → absences ≡ begun absences h round
+begun_past absences h round le =
+    sym (ap (λ (o : Option ℕ). cond (is_some o) absences (set absences h (Some round))) (ap if_there (slice_get_past absences h le)) ∙ set_past absences h (Some round) le)
+
+pub begun_able : (absences : Absences) (h round : ℕ) (x : Option ℕ) → slice_get absences h ≡ Some x → is_some x ≡ true → absences ≡ begun absences h round
+begun_able absences h round x e some =
+    sym (ap (λ (b : Bool). cond b absences (set absences h (Some round))) (ap is_some (since_there absences h x e) ∙ some))
+
+pub begun_absent : (absences : Absences) (h round : ℕ) (x : Option ℕ) → slice_get absences h ≡ Some x → is_some x ≡ false → set absences h (Some round) ≡ begun absences h round
+begun_absent absences h round x e none =
+    sym (ap (λ (b : Bool). cond b absences (set absences h (Some round))) (ap is_some (since_there absences h x e) ∙ none))
+
+pub is_none : (x : Option ℕ) → is_some x ≡ false → x ≡ None
+is_none None none = refl
+is_none (Some r) none = absurd (cc)
 
 -- ---- nobody is absent
 
@@ -180,7 +206,7 @@ none_late absences parts able first round is last z h late =
     let k = remainder first in
     let within : k < 256 = omega arith in
     let not_counted : has_remainder k (Some late_first) ≡ false =
-        none_counted (has_remainder k) absences (sym (is.part k within) ∙ z) h (Some late_first) (first_there absences h late_first late.absent) in
+    none_counted (has_remainder k) absences (sym (is.part k within) ∙ z) h (Some late_first) (first_there absences h late_first late.absent) in
     let counted : has_remainder k (Some late_first) ≡ true = own_remainder k late_first (ap remainder (sym same)) in
     let bad : true ≡ false = sym counted ∙ not_counted in
     absurd (cc)

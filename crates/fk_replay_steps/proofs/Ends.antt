@@ -1,5 +1,5 @@
 -- Value lists, of which the code has the last value at the end.
-use Rattle.std.proofs.Common.{◌≡◌, ℕ, zero, suc, ◌+◌, ◌-◌, ◌<◌, ◌≤◌, List, [], ◌∷◌, ◌++◌, length, get_or, take, drop, reverse, ap, refl, sym, ◌∙◌, arith}
+use Rattle.std.proofs.Common.{◌≡◌, ℕ, zero, suc, ◌-◌, ◌<◌, ◌≤◌, List, [], ◌∷◌, ◌++◌, length, get_or, take, drop, reverse, ap, refl, sym, ◌∙◌, arith}
 use Rattle.std.proofs.lemmas.List.{get_or-reverse, length-reverse, reverse-append, length-take-le, length-drop, take-append-drop}
 use Rattle.fk_meaning.specs.Processor.{last, before}
 
@@ -27,9 +27,11 @@ none xs n le =
 
 before_behind : (n : ℕ) (front more : List ℕ) → length front ≤ n → before n (front ++ more) ≡ before (n - length front) more
 before_behind zero [] more le = refl
-before_behind (suc n) [] more le = refl
+before_behind (suc n) [] more le = let same : suc n ≡ suc n - 0 = omega arith in ap (λ k. before k more) same
 before_behind zero (v ∷ front) more le = absurd (let z : ⊥ = omega arith in z)
-before_behind (suc n) (v ∷ front) more le = before_behind n front more (omega arith)
+before_behind (suc n) (v ∷ front) more le =
+    let same : n - length front ≡ suc n - suc (length front) = omega arith in
+    before_behind n front more (omega arith) ∙ ap (λ k. before k more) same
 
 -- nothing is left out, or there is nothing
 before_none : (n : ℕ) (vs : List ℕ) → (0 < n → length vs ≡ 0) → before n vs ≡ vs

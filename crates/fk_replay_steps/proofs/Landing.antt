@@ -1,6 +1,6 @@
 -- Where jumps lead.
-use Rattle.std.proofs.Common.{◌≡◌, ℕ, zero, suc, ◌+◌, ◌-◌, ◌<◌, List, length, true, false, ap, refl, sym, ◌∙◌, arith}
-use Rattle.std.specs.Prelude.{slice_get, Some, None}
+use Rattle.std.proofs.Common.{◌≡◌, ℕ, suc, ◌+◌, ◌-◌, ◌<◌, List, length, true, ap, ◌∙◌, arith}
+use Rattle.std.specs.Prelude.{slice_get, Some}
 use Rattle.fk_core.specs.declared.op.CoreOp.{CoreOp}
 use Rattle.fk_core.specs.Next.{is_jump, through, led_by, landing_by}
 
@@ -14,13 +14,3 @@ pub on : (ops : List CoreOp) (passed i : ℕ) (op : CoreOp) → passed < length 
 on ops passed i op lt at jump =
     let left : length ops - passed ≡ suc (length ops - (passed + 1)) = omega arith in
     ap (λ k. landing_by ops k i) left ∙ on_by ops (length ops - (passed + 1)) i op at jump
-
--- anything else leads to itself
-pub at_op : (ops : List CoreOp) (jumps i : ℕ) (op : CoreOp) → slice_get ops i ≡ Some op → is_jump op ≡ false → landing_by ops jumps i ≡ i
-at_op ops zero i op at jump = refl
-at_op ops (suc jumps) i op at jump =
-    ap (λ o. led_by o (landing_by ops jumps) i) at ∙ ap (λ b. through b (landing_by ops jumps) i op.target) jump
-
-pub at_end : (ops : List CoreOp) (jumps i : ℕ) → slice_get ops i ≡ None → landing_by ops jumps i ≡ i
-at_end ops zero i at = refl
-at_end ops (suc jumps) i at = ap (λ o. led_by o (landing_by ops jumps) i) at

@@ -1,6 +1,7 @@
 -- Since which rounds processors could act and are absent.
-use Rattle.std.specs.Prelude.{◌≡◌, ℕ, ◌+◌, ◌<◌, ◌≤◌, List, slice_get, set, Option, Some, None}
-use Rattle.std.specs.Prelude.{is_some, if◌then◌else◌, ◌%◌, ◌^◌, ◌==◌, Bool, false, length, slice_index, count_by}
+use Rattle.std.specs.Prelude.{◌≡◌, ℕ, ◌+◌, ◌%◌, ◌<◌, ◌^◌, ◌==◌, Bool, false, List, length, set}
+use Rattle.std.specs.Prelude.{slice_get, slice_index, count_by, Option, Some, None, is_some}
+use Rattle.std.specs.Prelude.{if◌then◌else◌}
 
 -- for each processor the round since which it could act and is absent, if there is one
 abbrev pub Absences : Type 0

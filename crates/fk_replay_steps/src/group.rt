@@ -1,7 +1,8 @@
 //! Steps of the tree of groups: what a member does in them.
 
-ghost use Rattle.std.specs.Prelude.{◌≡◌, ◌<◌, IsSome, IsTrue, IfSome, OnOk};
+ghost use Rattle.std.specs.Prelude.{◌≡◌, ◌<◌, ◌≤◌, ◌^◌, IsSome, IsTrue, IfSome, OnOk};
 ghost use Rattle.fk_space.specs.Space.{share, frame};
+ghost use Rattle.fk_meaning_operation.specs.declared.operation.SplitKind.{SplitKind};
 ghost use Rattle.fk_meaning_store.specs.Serve as served;
 ghost use Rattle.fk_meaning.specs.Processor as p;
 ghost use Rattle.fk_meaning.specs.Group as g;
@@ -178,12 +179,16 @@ fn take_block(processor: &mut Processor) -> Result<(), AllocError>
 
 /// Whether a step finds the words that it needs.
 pub fn has_room(operation: Operation, processor: &Processor) -> bool
-    ensures { result ≡ g.has_room operation (processor_of processor.now) }
+    ensures room { result ≡ g.has_room operation (processor_of processor.now) }
+    ensures few { IsTrue result → (by : SplitKind) → operation ≡ Operation.Split by
+        → g.parts by (p.values (processor_of processor.now)) ≤ 2 ^ 18 }
 {
     match operation {
         Operation::Frame { words, .. } => processor.level.space.frame(words).is_some(),
         Operation::Split(by) => {
             let count = parts(by, processor);
+            // A space has at most 2^20 free words.
+            let _ = processor.level.space.free();
             count == 0 || processor.level.space.share(count).is_some()
         }
         _ => true,
@@ -191,12 +196,7 @@ pub fn has_room(operation: Operation, processor: &Processor) -> bool
 }
 
 /// Which way a member takes.
-pub fn goes_onward(
-    operation: Operation,
-    highest: u32,
-    lowest: u32,
-    processor: &Processor,
-) -> bool
+pub fn goes_onward(operation: Operation, highest: u32, lowest: u32, processor: &Processor) -> bool
     ensures { result ≡ g.goes_onward operation highest lowest (processor_of processor.now) }
 {
     match operation {

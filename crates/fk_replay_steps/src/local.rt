@@ -1,6 +1,6 @@
 //! Local operations.
 
-ghost use Rattle.std.specs.Prelude.{◌≡◌, ◌+◌, ◌*◌, IsTrue, OnOk};
+ghost use Rattle.std.specs.Prelude.{◌≡◌, ◌+◌, ◌*◌, IsTrue, OnOk, true};
 ghost use Rattle.fk_num.specs.Op as op;
 ghost use Rattle.fk_num.specs.Word.{word};
 ghost use Rattle.fk_meaning.specs.Processor as p;

@@ -2,7 +2,8 @@
 
 ghost use Rattle.std.specs.Prelude.{◌≡◌, ℕ, ◌↔◌, List, Option, None, IfOk, IsTrue, is_some, set};
 ghost use Rattle.std.specs.Prelude.{replicate};
-ghost use Rattle.fk_replay_steps.specs.Pace.{since as since_of, begun, IsLeastLate, IsCounted, remainder};
+ghost use Rattle.fk_replay_steps.specs.Pace.{since as since_of, begun, remainder};
+ghost use Rattle.fk_replay_steps.specs.Pace.{IsLeastLate, IsCounted};
 
 use std::alloc::{AllocError, Global};
 use std::marker::Model;
@@ -61,11 +62,12 @@ impl Pace {
         ensures { self.new ≡ begun self.old processor round }
     {
         let at = processor as usize;
-        if let Some(None) = self.since.get(at) {
-            self.since[at] = Some(round);
-            self.counts[place(round)] += 1;
-            self.able += 1;
+        if self.since.len() <= at || self.since[at].is_some() {
+            return;
         }
+        self.since[at] = Some(round);
+        self.counts[place(round)] += 1;
+        self.able += 1;
     }
 
     /// A processor is in a round.
@@ -73,7 +75,10 @@ impl Pace {
         ensures { self.new ≡ set self.old processor None }
     {
         let at = processor as usize;
-        if let Some(Some(round)) = self.since.get(at).copied() {
+        if self.since.len() <= at {
+            return;
+        }
+        if let Some(round) = self.since[at] {
             self.since[at] = None;
             self.counts[place(round)] -= 1;
             self.able -= 1;
@@ -96,7 +101,7 @@ impl Pace {
             return None;
         }
         for processor in 0..self.since.len() {
-            if self.since[processor] == Some(first) {
+            if self.since[processor].is_some_and(|since| since == first) {
                 return Some(processor as u32);
             }
         }

@@ -1,3 +1,4 @@
+pub mod Members
 pub mod Changing
 pub mod Loop
 pub mod Settling

@@ -16,6 +16,7 @@ ghost use Rattle.fk_replay_rounds.specs.Own.{AreOwn};
 ghost use Rattle.fk_replay_phases.specs.Actors.{AreInRound, actings_of, runners_of};
 ghost use Rattle.fk_replay_trees.specs.Changes.{has_of, HaveParts, CanStep, CanChange};
 
+use fk_meaning::laws::lists_tell_members;
 use fk_meaning_operation::{Operation, SplitKind};
 use fk_replay_phases::{Acting, Actor};
 use fk_replay_steps::{last, not_negative, part, parts, stays};
@@ -107,6 +108,8 @@ fn split(
 {
     let count = parts(by, &actors[acting.lowest as usize].runner.processor);
     let of = parts_of(alloc, by, count, tree.members(acting.node), actors)?;
+    // This call is a fact for the proof, and does nothing.
+    lists_tell_members();
     tree.split(alloc, acting.node, count, &of)?;
     Ok(())
 }
@@ -125,6 +128,8 @@ fn shrink(
     ensures processors { processors tree.new ≡ processors tree.old }
 {
     let stay = stays_of(alloc, tree.members(acting.node), actors)?;
+    // This call is a fact for the proof, and does nothing.
+    lists_tell_members();
     tree.shrink(acting.node, &stay);
     Ok(())
 }

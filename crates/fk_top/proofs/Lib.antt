@@ -1,5 +1,6 @@
 pub mod Readable
 pub mod Replayed
+pub mod Replaying
 pub mod Inputs
 pub mod Runs
 pub mod Lost

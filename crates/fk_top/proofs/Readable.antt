@@ -4,8 +4,6 @@ use Rattle.std.proofs.lemmas.List.{length-append, length-take, take_all}
 use Rattle.std.proofs.lemmas.List.Elements.{All-contains}
 use Rattle.std.proofs.lemmas.Option.{none-some}
 use Rattle.fk_syntax.specs.declared.facts.Facts.{Facts}
-use Rattle.fk_syntax.specs.declared.facts.Kind.{Kind}
-use Rattle.fk_syntax.specs.declared.facts.Note.{Note}
 use Rattle.fk_syntax.specs.declared.place.Place.{Place}
 use Rattle.fk_syntax.specs.Program.{DeclaredTree, ItemTree, ProgramTree}
 use Rattle.fk_lex.specs.Reading.{Spelled}
@@ -14,16 +12,13 @@ use Rattle.fk_parse_combinators.specs.declared.fault.SyntaxFault.{SyntaxFault}
 use Rattle.fk_parse_combinators.specs.declared.fault.SyntaxFault.TheVariants as syntax_fault
 use Rattle.fk_parse_combinators.specs.Faults.{IsMemory}
 use Rattle.fk_parse.specs.Parses.{SpellsProgram}
-use Rattle.fk_parse.proofs.Texts.{one_tree, tree_or_fault}
+use Rattle.fk_parse.proofs.Texts.{tree_or_fault}
 use Rattle.fk_check.specs.Rules.{BreaksFirst}
 use Rattle.fk_check.specs.Known.{AreAllFacts}
 use Rattle.fk_check.proofs.Apart.{keeps_or_breaks}
 use Rattle.fk_check.proofs.OneFacts.{one_facts}
-use Rattle.fk_check.specs.Laws.{AreSame}
 use Rattle.fk_compile_text.proofs.Elements.{Contains-head, Contains-tail, Contains-cons_cases, Contains-nil}
 use Rattle.fk_meaning_forms.specs.Tables.{Tables}
-use Rattle.fk_layout_slots.specs.Frames.{regions_of}
-use Rattle.fk_layout_slots.specs.Slots.{slots_of}
 use Rattle.fk_layout.specs.declared.sites.LayoutFault.{LayoutFault}
 use Rattle.fk_layout.specs.declared.sites.LayoutFault.TheVariants as layout
 use Rattle.fk_layout.specs.Layout.{tables_by}

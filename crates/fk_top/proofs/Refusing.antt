@@ -1,6 +1,6 @@
 -- A source, bytes that are no image, or an input text that is refused ends a call with the report of why.
 use Rattle.std.proofs.Common.{◌≡◌, ℕ, List, Result, Ok, Err, IfOk, Option, Some, None, sym, ap, ◌∙◌, ◌⊎◌, inl, inr}
-use Rattle.std.specs.Prelude.{IsErr, IsOkAnd, MatchOption}
+use Rattle.std.specs.Prelude.{IsErr, IsOkAnd, MatchOption, vec_len}
 use Rattle.std.specs.Option.{option_map}
 use Rattle.std.specs.declared.alloc.AllocError.{AllocError}
 use Rattle.fk_image.specs.declared.Image.{Image}
@@ -21,7 +21,8 @@ use Rattle.fk_top.specs.declared.status.Status.TheVariants.{Refused, ImageRefuse
 use Rattle.fk_top.specs.declared.ending.LastLine.{LastLine}
 use Rattle.fk_top.specs.Ending.{last_line, outcome_of}
 use Rattle.fk_top.specs.Report.{line_of}
-use Rattle.fk_top.specs.Outcome.{silent, numbers_for, RefusesSource, RefusesElf, RefusesImage, RefusesInput}
+use Rattle.fk_top_input.specs.Input.{input_of}
+use Rattle.fk_top.specs.Outcome.{silent, most_numbers, numbers_for, RefusesSource, RefusesElf, RefusesImage, RefusesInput, RefusesInputBeside}
 use Rattle.fk_top.specs.Refused.{elf_report_of, image_report_of, input_report_of, refusal_line}
 
 pub refusing : (source : List ℕ) (refusal : Refusal) (line : Option LastLine) (r : Result Ending AllocError) (Q : Ending → Type 0)
@@ -67,11 +68,16 @@ refusing_elf bytes fault (Some x) (Ok e) Q refused says is =
 refusing_elf bytes fault None (Ok e) Q refused says is = absurd (cc)
 refusing_elf bytes fault report (Err error) Q refused says is = tt
 
+pub refusing_input_beside : (globals : ℕ) (text : List ℕ) (fault : InputFault) (report : Option Report) (r : Result Ending AllocError) (Q : Ending → Type 0)
+    → (fault ≡ Memory) ⊎ (input_of (most_numbers globals) text ≡ Err fault) → report ≡ input_report_of fault
+    → MatchOption report (IsErr r) (λ x. IsOkAnd r (λ e. outcome_of e ≡ silent InputRefused (line_of x))) → IfOk r (λ e. RefusesInputBeside globals text (outcome_of e) ⊎ Q e)
+refusing_input_beside globals text fault (Some x) (Ok e) Q (inl memory) says is = let none : Some x ≡ None = says ∙ ap input_report_of memory in absurd (cc)
+refusing_input_beside globals text fault (Some x) (Ok e) Q (inr refused) says is =
+    inl (record { fault = fault; refused = refused; report = x; says = sym says; is = is })
+refusing_input_beside globals text fault None (Ok e) Q refused says is = absurd (cc)
+refusing_input_beside globals text fault report (Err error) Q refused says is = tt
+
 pub refusing_input : (image : Image) (text : List ℕ) (fault : InputFault) (report : Option Report) (r : Result Ending AllocError) (Q : Ending → Type 0)
     → (fault ≡ Memory) ⊎ (numbers_for image text ≡ Err fault) → report ≡ input_report_of fault
     → MatchOption report (IsErr r) (λ x. IsOkAnd r (λ e. outcome_of e ≡ silent InputRefused (line_of x))) → IfOk r (λ e. RefusesInput image text (outcome_of e) ⊎ Q e)
-refusing_input image text fault (Some x) (Ok e) Q (inl memory) says is = let none : Some x ≡ None = says ∙ ap input_report_of memory in absurd (cc)
-refusing_input image text fault (Some x) (Ok e) Q (inr refused) says is =
-    inl (record { fault = fault; refused = refused; report = x; says = sym says; is = is })
-refusing_input image text fault None (Ok e) Q refused says is = absurd (cc)
-refusing_input image text fault report (Err error) Q refused says is = tt
+refusing_input image = refusing_input_beside (vec_len image.globals)

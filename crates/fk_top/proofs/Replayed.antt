@@ -1,12 +1,12 @@
 -- What a replay comes to.
-use Rattle.std.proofs.Common.{◌≡◌, ℕ, List, Option, Some, None, Result, Ok, Err, sym, subst, ◌⊎◌, inl, inr}
+use Rattle.std.proofs.Common.{◌≡◌, ℕ, List, Some, Result, Ok, Err, sym, subst, inl, inr}
 use Rattle.fk_syntax.specs.declared.facts.Facts.{Facts}
 use Rattle.fk_syntax.specs.Program.{ProgramTree}
 use Rattle.fk_replay_text.specs.declared.fault.ReplayFault.{ReplayFault}
 use Rattle.fk_replay_text.specs.declared.fault.ReplayFault.TheVariants.{BadTrace, NotPossible, Pace, Memory}
 use Rattle.fk_replay.specs.declared.end.Replayed.{Replayed}
 use Rattle.fk_top.specs.declared.status.Status.TheVariants.{TraceRefused, InputRefused}
-use Rattle.fk_top.specs.Outcome.{Outcome, EndsReplay, ReplaysTrace, answered, replayed, silent}
+use Rattle.fk_top.specs.Outcome.{Outcome, EndsReplay, answered, replayed, silent}
 
 -- an answer that has an outcome is that of a run, or refuses the trace
 pub answered_as : (sites : List (ℕ × ℕ × ℕ)) (answer : Result Replayed ReplayFault) (cycles : ℕ) (outcome : Outcome) (P : Outcome → Type 0) → ((run : Replayed) → answer ≡ Ok run → P (replayed sites run cycles))

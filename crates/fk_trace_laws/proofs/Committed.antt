@@ -1,5 +1,5 @@
 -- What the harts of a machine commit in each cycle.
-use Rattle.std.proofs.Common.{◌≡◌, ℕ, zero, suc, ◌%◌, ◌≤◌, List, [], ◌∷◌, ◌++◌, Option, Some, None, Bool, true, false, length, map, replicate, refl, sym, ap, ◌∙◌, arith}
+use Rattle.std.proofs.Common.{◌≡◌, ℕ, zero, suc, ◌≤◌, List, [], ◌∷◌, ◌++◌, Option, Some, None, Bool, true, false, length, map, refl, sym, ap, subst, ◌∙◌, arith}
 use Rattle.std.specs.Prelude.{◌==◌, vec_len}
 use Rattle.std.specs.List.{AllByRecursion}
 use Rattle.std.proofs.lemmas.List.{length-map, length-replicate}
@@ -8,7 +8,7 @@ use Rattle.fk_image.specs.declared.Image.{Image}
 use Rattle.fk_image.specs.Limits.{count_of_word, IsWithinLimits}
 use Rattle.fk_image.specs.Limits as image
 use Rattle.fk_machine.specs.Commit.{Commits, commit_at, commits_of}
-use Rattle.fk_machine.specs.Cycle.{Machine, Turns, after_effect, after_turns, first_hart, is_running, machine_opening, no_address, setting_of, turn, turns, turns_of, unprinted}
+use Rattle.fk_machine.specs.Cycle.{Machine, Turns, after_effect, first_hart, is_running, machine_opening, no_address, setting_of, turn, turns, unprinted}
 use Rattle.fk_machine.specs.Hart.{Hart, Shared, Setting, Effect, Goes, Stops}
 use Rattle.fk_machine.specs.Run.{after, committed, committed_in}
 use Rattle.fk_machine.specs.Step.{step}

@@ -7,13 +7,13 @@ use Rattle.fk_trace.specs.declared.column.Column.{Column}
 use Rattle.fk_trace.specs.Text.{Range, first_lines, last_line}
 use Rattle.fk_replay_text.specs.Fields.{SpellsRange, field_text}
 use Rattle.fk_replay_text.specs.Texts.{Lacks}
-use Rattle.fk_replay_text.specs.Trace.{AreInOrder, IsLine, IsRange, IsTrace, Rise, Told, all_told_text, told_text}
+use Rattle.fk_replay_text.specs.Trace.{AreInOrder, IsLine, IsRange, Rise, Told, all_told_text, told_text}
 use Rattle.fk_replay_text.proofs.Cutting.{cut_once, lacks_append, lacks_by, word_once}
 use Rattle.fk_replay_text.proofs.Decimals.{decimal_lacks}
 use Rattle.fk_replay_text.proofs.Fields.{field_lacks, field_once, shown, spells_own}
 use Rattle.fk_replay_text.proofs.Ranges.{ranges_stop, text_of}
 use Rattle.fk_replay_text.proofs.Told.{body_of, end_is, end_lacks, end_of, last_once, not_last, told_is, told_lacks, told_once}
-use Rattle.fk_trace_laws.specs.Traced.{IsSameTrace, TextsTellOneTrace}
+use Rattle.fk_trace_laws.specs.Traced.{TextsTellOneTrace}
 
 -- ---- the ranges of a line
 
@@ -94,4 +94,4 @@ texts_tell_one_trace text harts other last more ss ts a b =
     let same = decimal_injective harts other (omega (arith, few)) (omega (arith, low)) (append_cancel_left (codes "harts ") (decimal harts) (decimal other) parts.0) in
     let order = subst (λ h. AreInOrder h more 0 0 ts) (sym same) b.body.order in
     let bodies = same_lines harts last more 0 0 0 0 ss ts (omega (arith, few)) a.body.word b.body.word a.body.order order (sym a.body.spells ∙ parts.1 ∙ b.body.spells) in
-    record { harts = same; cycles = bodies.1; lines = bodies.0 }
+    record { same_harts = same; same_cycles = bodies.1; same_lines = bodies.0 }

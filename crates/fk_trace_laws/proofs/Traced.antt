@@ -1,5 +1,5 @@
 -- The trace of a run is a lawful trace of the program.
-use Rattle.std.proofs.Common.{◌≡◌, ℕ, ◌+◌, ◌^◌, ◌<◌, ◌≤◌, List, length, map, replicate, refl, sym, ap, subst, ◌∙◌, arith}
+use Rattle.std.proofs.Common.{◌≡◌, ℕ, ◌+◌, ◌^◌, ◌<◌, ◌≤◌, List, length, sym, ap, subst, ◌∙◌, arith}
 use Rattle.std.proofs.lemmas.List.{length-replicate}
 use Rattle.fk_syntax.specs.Program.{ProgramTree}
 use Rattle.fk_meaning_forms.specs.Tables.{Tables}
@@ -37,10 +37,16 @@ module _ (image : Image) (input : List ℕ) (p n : ℕ) where
   cycles = committed_in n start
 
   begun_is : (machine image input p n).begun ≡ length cycles
-  begun_is = ap (λ (m : Machine). m.begun) (machine-after image input p n) ∙ begun-length start n
+  begun_is =
+      let same = ap (λ (m : Machine). m.begun) (machine-after image input p n) in
+      let counted : (after n start).begun ≡ 0 + length cycles = begun-length start n in
+      omega (arith, same, counted)
 
   few_cycles : n < 2 ^ 32 → length cycles < 2 ^ 32
-  few_cycles bound = omega (arith, bound, begun-length start n, begun-after start n)
+  few_cycles bound =
+      let counted : (after n start).begun ≡ 0 + length cycles = begun-length start n in
+      let few : (after n start).begun ≤ 0 + n = begun-after start n in
+      omega (arith, bound, counted, few)
 
   text_is : trace_text p cycles ≡ trace_of n start
   text_is = ap (λ (harts : ℕ). trace_text harts cycles) (sym (length-replicate p first_hart))

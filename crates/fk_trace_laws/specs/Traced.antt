@@ -45,9 +45,9 @@ TraceIsLawful =
 
 -- Two traces of one text are the same.
 pub record IsSameTrace (harts other cycles more : ℕ) (lines rest : List Told) : Type 0 where
-  pub harts : harts ≡ other
-  pub cycles : cycles ≡ more
-  pub lines : lines ≡ rest
+  pub same_harts : harts ≡ other
+  pub same_cycles : cycles ≡ more
+  pub same_lines : lines ≡ rest
 
 abbrev pub TextsTellOneTrace : Type 0
 TextsTellOneTrace =

@@ -1,6 +1,6 @@
 use Rattle.fk_syntax.specs.ProgramView.{program_of}
 use Rattle.fk_compile_text.proofs.Parts.{passes_on}
-use Rattle.fk_replay_source.proofs.Listed.{laid_out, few_indices, few_globals}
+use Rattle.fk_replay_source.proofs.Known.{laid_out, few_indices, few_globals}
 use Rattle.fk_replay_source.proofs.listed.listed_text.Goals as goal
 
 pub returns-in_err-list-clause-refused : goal.returns-in_err-list-clause-refused

@@ -1,12 +1,12 @@
-use Rattle.std.proofs.Common.{◌≡◌, ℕ, ◌+◌, ◌^◌, ◌<◌, ◌≤◌, List, length, ◌∙◌, sym, ap, subst, arith}
+use Rattle.std.proofs.Common.{◌^◌, ◌<◌, List, length, ◌∙◌, sym, ap, subst, arith}
 use Rattle.fk_syntax.specs.ProgramView.{program_of}
 use Rattle.fk_meaning_forms.specs.Program.{main_of}
 use Rattle.fk_layout.specs.Layout.{tables_by}
 use Rattle.fk_core.specs.declared.op.CoreOp.{CoreOp}
 use Rattle.fk_compile.specs.Faithful.{firsts_by, words_by}
 use Rattle.fk_replay.specs.Replay.{IsOrderly, IsSafe, schedule_in}
-use Rattle.fk_replay_source.proofs.Replayed.{same_answer}
-use Rattle.fk_replay_source.proofs.replay.replay.Goals as goal
+use Rattle.fk_replay_source.proofs.Passed.{same_answer}
+use Rattle.fk_replay_source.proofs.program.replay.Goals as goal
 
 pub replay_list-requires-clause-few : goal.replay_list-requires-clause-few
 replay_list-requires-clause-few c = subst (λ (ops : List CoreOp). length ops < 2 ^ 32) (sym c.deref.ensures.value) c.requires.small

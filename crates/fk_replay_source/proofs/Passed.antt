@@ -1,5 +1,5 @@
 -- The answer for a list, by what the code passes of it.
-use Rattle.std.proofs.Common.{◌≡◌, ℕ, List, Result, sym, subst}
+use Rattle.std.proofs.Common.{◌≡◌, ℕ, List, Result, subst}
 use Rattle.fk_meaning.specs.Schedule.{Schedule}
 use Rattle.fk_core.specs.declared.op.CoreOp.{CoreOp}
 use Rattle.fk_replay_text.specs.declared.fault.ReplayFault.{ReplayFault}
