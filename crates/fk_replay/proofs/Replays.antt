@@ -101,7 +101,7 @@ module _ (core : List CoreOp) (main : ℕ) (words firsts input : List ℕ) (p : 
   state_is = ap state_of told.kept ∙ opening.state
 
   pub processors_are : processors begun.tree ≡ p
-  processors_are = ap (λ (r : Run). processors r.tree) told.kept ∙ opening.processors
+  processors_are = ap (λ (r : Run). processors r.tree) told.kept ∙ opening.tree
 
   same_setting : setting_of opened.setting ≡ setting_of begun.setting
   same_setting = sym (ap (λ (r : Run). setting_of r.setting) told.kept)

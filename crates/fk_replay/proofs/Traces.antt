@@ -26,10 +26,13 @@ use Rattle.fk_replay.specs.Passed.{AreOnTime, TellsFirstLate, HasPassed, IsRefus
 use Rattle.fk_replay.specs.Followed.{HasDone, HasFollowed, HasStopped, IsUnlawful, AreSteady}
 use Rattle.fk_replay.proofs.Following.{IsEmptyAt, empties_done, empties_late, round_done, round_stopped, round_refused}
 
+drop_next : (items : List Moment) (i : ℕ) (m : Moment) → slice_get items i ≡ Some m → drop i (map moment_of items) ≡ moment_of m ∷ drop (suc i) (map moment_of items)
+drop_next [] i m e = let clash : None ≡ Some m = e in absurd (cc)
+drop_next (x ∷ items) zero m e = let same : x ≡ m = cc in ap (λ (y : Moment). moment_of y ∷ map moment_of items) same
+drop_next (x ∷ items) (suc i) m e = drop_next items i m e
+
 drop_there : (items : List Moment) (i : ℕ) (m : Moment) → slice_get items i ≡ Some m → drop i (map moment_of items) ≡ moment_of m ∷ drop (i + 1) (map moment_of items)
-drop_there [] i m e = let clash : None ≡ Some m = e in absurd (cc)
-drop_there (x ∷ items) zero m e = let same : x ≡ m = cc in ap (λ (y : Moment). moment_of y ∷ map moment_of items) same
-drop_there (x ∷ items) (suc i) m e = drop_there items i m e
+drop_there items i m e = drop_next items i m e ∙ ap (λ (n : ℕ). moment_of m ∷ drop n (map moment_of items)) (let one : suc i ≡ i + 1 = omega arith in one)
 
 drop_all : (items : List Moment) → drop (length items) (map moment_of items) ≡ []
 drop_all [] = refl

@@ -26,17 +26,17 @@ module _ (core : List CoreOp) (set : Setting) (schedule : Schedule) (first : Sta
   behind n = after (next core) set schedule first n
 
   -- a run has done the first n rounds. If others follow, it is known who could act
-  pub record HasDone (n : ℕ) (run : Run) : Type 0 where
-    pub run : IsRun run
-    pub setting : setting_of run.setting ≡ set
-    pub state : state_of run ≡ behind n
-    pub given : (tree_of run.tree).given ≤ 1 + n * 2 ^ 28
+  pub record HasDone (n : ℕ) (r : Run) : Type 0 where
+    pub run : IsRun r
+    pub setting : setting_of r.setting ≡ set
+    pub state : state_of r ≡ behind n
+    pub given : (tree_of r.tree).given ≤ 1 + n * 2 ^ 28
     pub passed : ArePassed (next core) set schedule first n
-    pub paced : n < length schedule → IsPaced (next core) set schedule first (since run.pace) n
-    pub knows : n < length schedule → KnowsAbout core run []
+    pub paced : n < length schedule → IsPaced (next core) set schedule first (since r.pace) n
+    pub knows : n < length schedule → KnowsAbout core r []
 
   -- it has done all rounds but the last one, which is stopped by a fault and late for nobody
-  pub record HasStopped (run : Run) (fault : Fault) : Type 0 where
+  pub record HasStopped (r : Run) (by : Fault) : Type 0 where
     pub n : ℕ
     pub last : suc n ≡ length schedule
     pub round : Round
@@ -44,8 +44,8 @@ module _ (core : List CoreOp) (set : Setting) (schedule : Schedule) (first : Sta
     pub passed : ArePassed (next core) set schedule first n
     pub stopped : IsStopped (next core) set round (behind n)
     pub on_time : (h : ℕ) → IsLate (next core) set schedule first (suc n) h → ⊥
-    pub fault : (result (next core) set round (behind n)).fault ≡ Some (fault_of core fault)
-    pub store : store_of run.store ≡ (result (next core) set round (behind n)).store
+    pub fault : (result (next core) set round (behind n)).fault ≡ Some (fault_of core by)
+    pub store : store_of r.store ≡ (result (next core) set round (behind n)).store
 
   abbrev pub HasFollowed : Run → Option Fault → Type 0
   HasFollowed run None = HasDone (length schedule) run

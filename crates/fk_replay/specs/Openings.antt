@@ -27,11 +27,11 @@ module _ (set : Setting) (main : ℕ) (firsts : List ℕ) where
     pub many : length actors ≡ count
     pub each : (h : ℕ) (actor : Actor) → slice_get actors h ≡ Some actor → IsFirst h actor
 
-pub record IsOpening (main : ℕ) (words firsts input : List ℕ) (p : ℕ) (run : Run) : Type 0 where
-  pub run : IsRun run
-  pub processors : processors run.tree ≡ p
-  pub setting : setting_of run.setting ≡ replay.setting_in [] main words firsts input p
-  pub state : state_of run ≡ list_opening main words firsts input p
-  pub given : (tree_of run.tree).given ≤ 1
-  pub pace : run.pace ≡ replicate p None
-  pub arrived : (h : ℕ) (joint : Joint) → arrived_at run.arrived.items h joint ≡ 0
+pub record IsOpening (main : ℕ) (words firsts input : List ℕ) (p : ℕ) (r : Run) : Type 0 where
+  pub run : IsRun r
+  pub tree : processors r.tree ≡ p
+  pub setting : setting_of r.setting ≡ replay.setting_in [] main words firsts input p
+  pub state : state_of r ≡ list_opening main words firsts input p
+  pub given : (tree_of r.tree).given ≤ 1
+  pub pace : r.pace ≡ replicate p None
+  pub arrived : (h : ℕ) (joint : Joint) → arrived_at r.arrived.items h joint ≡ 0
