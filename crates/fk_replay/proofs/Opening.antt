@@ -1,5 +1,5 @@
 -- Runs before their first round.
-use Rattle.std.proofs.Common.{◌≡◌, ℕ, zero, suc, ◌+◌, ◌<◌, ◌≤◌, ◌^◌, false, List, [], ◌∷◌, length, map, get_or, Option, Some, None, refl, sym, ap, ap₂, ◌∙◌, subst, arith}
+use Rattle.std.proofs.Common.{◌≡◌, ℕ, zero, suc, ◌+◌, ◌<◌, ◌≤◌, ◌^◌, ◌⊎◌, inl, inr, false, List, [], ◌∷◌, ◌++◌, length, map, get_or, Option, Some, None, refl, sym, ap, ap₂, ◌∙◌, subst, arith}
 use Rattle.std.specs.Prelude.{slice_get, slice_index, option_map}
 use Rattle.std.proofs.lemmas.Option.{slice_get-map, slice_get_within, slice_get-get_or}
 use Rattle.fk_tree.specs.Tree as t
@@ -15,6 +15,10 @@ use Rattle.fk_replay_steps.specs.Steps.{runner_of}
 use Rattle.fk_replay_phases.specs.Actors.{HaveNone, runners_of}
 use Rattle.fk_replay_phases.specs.Modes.{HaveModes}
 use Rattle.fk_replay_phases.specs.declared.actor.Actor.{Actor}
+use Rattle.fk_meaning_operation.specs.declared.kinds.Joint.{Joint}
+use Rattle.fk_meaning_operation.specs.declared.kinds.Joint.TheVariants.{Alone, Starting, AtBarrier, Closing, Resuming}
+use Rattle.fk_replay.specs.declared.run.Arrived.{Arrived}
+use Rattle.fk_replay.specs.Passed.{arrived_in, arrived_at}
 use Rattle.fk_replay.specs.Openings.{IsFirst, AreFirst}
 
 module _ (set : Setting) (main : ℕ) (firsts : List ℕ) where
@@ -53,3 +57,60 @@ module _ (set : Setting) (main : ℕ) (firsts : List ℕ) where
       by : (h : ℕ) (r : Runner Position) (o : Option Actor) → slice_get actors h ≡ o → option_map (λ (a : Actor). runner_of a.runner) o ≡ Some r → IsOwn h r.has
       by h r None f e = let clash : None ≡ Some r = e in absurd (cc)
       by h r (Some a) f e = let same : runner_of a.runner ≡ r = cc in subst (λ (q : Runner Position). IsOwn h q.has) same (own h a (x.each h a f))
+
+-- one more element
+get_more : {X : Type 0} (xs : List X) (x y : X) (j : ℕ) → slice_get (xs ++ x ∷ []) j ≡ Some y → (slice_get xs j ≡ Some y) ⊎ ((j ≡ length xs) × (x ≡ y))
+get_more [] x y zero e = let same : x ≡ y = cc in inr (refl, same)
+get_more {X} [] x y (suc j) e = absurd (none j e)
+  where
+    none : (j : ℕ) → slice_get ([] : List X) j ≡ Some y → ⊥
+    none j e = let clash : None ≡ Some y = e in cc
+get_more (z ∷ xs) x y zero e = inl e
+get_more {X} (z ∷ xs) x y (suc j) e = up (get_more xs x y j e)
+  where
+    up : (slice_get xs j ≡ Some y) ⊎ ((j ≡ length xs) × (x ≡ y)) → (slice_get (z ∷ xs) (suc j) ≡ Some y) ⊎ ((suc j ≡ length (z ∷ xs)) × (x ≡ y))
+    up (inl f) = inl f
+    up (inr f) = inr (ap suc f.0, f.1)
+
+length_more : {X : Type 0} (xs : List X) (x : X) → length (xs ++ x ∷ []) ≡ length xs + 1
+length_more [] x = refl
+length_more (y ∷ xs) x = let e = length_more xs x in omega (arith, e)
+
+module _ (set : Setting) (main : ℕ) (firsts : List ℕ) where
+  pub first_none : AreFirst set main firsts 0 []
+  first_none = record { many = refl; each = λ h a e. absurd (none a e) }
+    where
+      none : (a : Actor) → None ≡ Some a → ⊥
+      none a e = cc
+
+  pub first_more : (count : ℕ) (actors : List Actor) (a : Actor) → AreFirst set main firsts count actors → IsFirst set main firsts count a → AreFirst set main firsts (count + 1) (actors ++ a ∷ [])
+  first_more count actors a x y = record {
+    many = length_more actors a ∙ ap (λ (n : ℕ). n + 1) x.many;
+    each = λ h b e. by h b (get_more actors a b h e);
+  }
+    where
+      by : (h : ℕ) (b : Actor) → (slice_get actors h ≡ Some b) ⊎ ((h ≡ length actors) × (a ≡ b)) → IsFirst set main firsts h b
+      by h b (inl e) = x.each h b e
+      by h b (inr e) = subst (λ (g : ℕ). IsFirst set main firsts g b) (sym (e.0 ∙ x.many)) (subst (IsFirst set main firsts count) e.1 y)
+
+-- nobody has arrived
+abbrev pub NoneArrived : List Arrived → Type 0
+NoneArrived items = (h : ℕ) (joint : Joint) → arrived_at items h joint ≡ 0
+
+pub none_more : (items : List Arrived) (a : Arrived) → NoneArrived items → a.starting ≡ 0 → a.at_barrier ≡ 0 → a.closing ≡ 0 → NoneArrived (items ++ a ∷ [])
+none_more items a none s b c h joint = by (slice_get (items ++ a ∷ []) h) refl
+  where
+    zeros : (joint : Joint) → arrived_in (Some a) joint ≡ 0
+    zeros Starting = s
+    zeros AtBarrier = b
+    zeros Closing = c
+    zeros Alone = refl
+    zeros Resuming = refl
+
+    there : (x : Arrived) → (slice_get items h ≡ Some x) ⊎ ((h ≡ length items) × (a ≡ x)) → arrived_in (Some x) joint ≡ 0
+    there x (inl e) = ap (λ (o : Option Arrived). arrived_in o joint) (sym e) ∙ none h joint
+    there x (inr e) = ap (λ (y : Arrived). arrived_in (Some y) joint) (sym e.1) ∙ zeros joint
+
+    by : (o : Option Arrived) → slice_get (items ++ a ∷ []) h ≡ o → arrived_at (items ++ a ∷ []) h joint ≡ 0
+    by None e = ap (λ (o : Option Arrived). arrived_in o joint) e
+    by (Some x) e = ap (λ (o : Option Arrived). arrived_in o joint) e ∙ there x (get_more items a x h e)

@@ -87,7 +87,7 @@ fn none_arrived(alloc: Global, processors: u32) -> Result<Vec<Arrived>, AllocErr
     ensures { IfOk result (λ arrived. (h) (joint) → arrived_at arrived.items h joint ≡ 0) }
 {
     let mut arrived = Vec::new(alloc);
-    for _ in 0..processors {
+    for _number in 0..processors {
         arrived.push(Arrived {
             starting: 0,
             at_barrier: 0,

@@ -32,12 +32,16 @@ module _ {W : Type 0} (next : W → Option (Step W)) (setting : Setting) (schedu
   pub paced_at_first : (since : Since) → ((h f : ℕ) → since h ≡ Some f → f ≡ 1) → ((h f : ℕ) → since h ≡ Some f → CouldAct next setting h opening)
       → ((h : ℕ) → since h ≡ None → CouldAct next setting h opening → ⊥) → IsPaced next setting schedule opening since 0
   paced_at_first since first could cannot = record {
-    waited = λ h f e. (0, first h f e, record {
-      begun = omega arith;
-      able = λ i low high. at h i (could h f e) (omega arith);
-      absent = λ i low high. absurd (omega arith);
-      longest = λ i e'. absurd (omega (arith, e'));
-    });
+    waited = λ h f e. (
+      0,
+      first h f e,
+      record {
+        begun = omega arith;
+        able = λ i low high. at h i (could h f e) (omega arith);
+        absent = λ i low high. absurd (omega arith);
+        longest = λ i e'. absurd (omega (arith, e'));
+      },
+    );
     cannot = cannot;
   }
     where
@@ -292,8 +296,11 @@ module _ {W : Type 0} (next : W → Option (Step W)) (setting : Setting) (schedu
       good m r e (inr same) =
           let both : Some round ≡ Some r = sym is ∙ ap (slice_get schedule) (sym same) ∙ e in
           let one : round ≡ r = cc in
-          inr (ap suc same ∙ last, subst (λ (x : Round). IsStopped next setting x (after next setting schedule opening m)) one
-          (subst (λ (k : ℕ). IsStopped next setting round (after next setting schedule opening k)) (sym same) stopped))
+          inr (
+            ap suc same ∙ last,
+            subst (λ (x : Round). IsStopped next setting x (after next setting schedule opening m)) one
+                (subst (λ (k : ℕ). IsStopped next setting round (after next setting schedule opening k)) (sym same) stopped),
+          )
 
       late : (r h : ℕ) → Late r h → (r ≤ n) ⊎ (r ≡ suc n) → ⊥
       late r h l (inl low) = passed.on_time r h low l

@@ -16,9 +16,9 @@ AreMoments harts last behind ((cycle, ranges) ∷ moments) =
 
 -- of some moments those behind a cycle are still to come
 pub record AreToCome (harts last : ℕ) (moments : Moments) (behind : ℕ) (rest : Moments) : Type 0
-    where
-  pub ordered : AreMoments harts last behind rest
-  pub same : (cycle : ℕ) → behind < cycle → ranges_at moments cycle ≡ ranges_at rest cycle
+  where
+    pub ordered : AreMoments harts last behind rest
+    pub same : (cycle : ℕ) → behind < cycle → ranges_at moments cycle ≡ ranges_at rest cycle
 
 abbrev pub TracesHaveMoments : Type 0
 TracesHaveMoments =
