@@ -16,7 +16,7 @@ use Rattle.fk_replay_text.specs.declared.trace.Moment.{Moment}
 use Rattle.fk_replay_text.specs.View.{moment_of, range_of}
 use Rattle.fk_replay_text.specs.Rounds.{round_of, ranges_at, schedule_of}
 use Rattle.fk_replay_schedules.specs.Moments.{Moments, AreMoments, AreToCome}
-use Rattle.fk_replay_schedules.proofs.Moments.{to_come_first, later, at_most_last, ranges_are, ranges_there, empty_before, empty_behind, to_come_next, schedule_length, round_at, empty_length, nobody_acts, within_last}
+use Rattle.fk_replay_schedules.proofs.Moments.{to_come_first, later, at_most_last, ranges_are, ranges_there, empty_before, empty_behind, to_come_next, schedule_length, round_at, empty_length, nobody_acts}
 use Rattle.fk_replay_phases.specs.declared.phases.Fault.{Fault}
 use Rattle.fk_replay.specs.declared.run.Run.{Run}
 use Rattle.fk_replay.specs.Ranges.{AreRanges}

@@ -25,7 +25,7 @@ traces_have_moments harts last lines text is = ordered harts last 0 0 lines is.b
 
 -- ---- moments
 
-pub within_last : (harts last behind : ℕ) (moments : Moments) → AreMoments harts last behind moments → behind ≤ last
+within_last : (harts last behind : ℕ) (moments : Moments) → AreMoments harts last behind moments → behind ≤ last
 within_last harts last behind [] x = x
 within_last harts last behind ((cycle, ranges) ∷ moments) x =
     let low = within_last harts last cycle moments x.2 in let less = x.0 in omega arith
