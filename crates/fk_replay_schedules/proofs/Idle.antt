@@ -1,11 +1,11 @@
 -- Rounds in which nobody acts.
-use Rattle.std.proofs.Common.{◌≡◌, ℕ, zero, suc, ◌+◌, ◌<◌, ◌≤◌, Bool, true, false, ◌&&◌, List, [], ◌∷◌, length, map, Option, Some, None, refl, sym, ap, ap₂, ◌∙◌, arith}
+use Rattle.std.proofs.Common.{◌≡◌, ℕ, zero, suc, ◌<◌, Bool, true, ◌&&◌, List, [], ◌∷◌, length, map, Option, None, refl, sym, ap, ap₂, ◌∙◌, arith}
 use Rattle.std.specs.Prelude.{is_none, slice_index}
 use Rattle.fk_tree.specs.Tree as t
 use Rattle.fk_meaning_operation.specs.declared.kinds.Joint.{Joint}
 use Rattle.fk_meaning_store.specs.Store.{Store}
 use Rattle.fk_meaning.specs.Processor.{Setting}
-use Rattle.fk_meaning.specs.Round.{Step, Runner, State, Round, Fault, Acting, Phases, taking, all_requests, all_changes, settled, tree_phase, asking, result, all_fit, all_may_act, joint_at, begin_all, is_allowed, is_possible}
+use Rattle.fk_meaning.specs.Round.{Step, Runner, State, Round, Fault, Acting, Phases, taking, all_requests, all_changes, settled, tree_phase, asking, result, all_fit, all_may_act, joint_at, begin_all, is_possible}
 
 module _ {W : Type 0} (next : W → Option (Step W)) (setting : Setting) where
   -- each processor has a count, which is 0

@@ -1,11 +1,11 @@
 -- The moments of a trace, and its rounds.
-use Rattle.std.proofs.Common.{◌≡◌, ℕ, zero, suc, ◌+◌, ◌<◌, ◌≤◌, Bool, true, false, List, [], ◌∷◌, length, Option, Some, None, refl, sym, ap, ◌∙◌, subst, arith, eq-eqb, ne_eqb}
+use Rattle.std.proofs.Common.{◌≡◌, ℕ, zero, suc, ◌+◌, ◌<◌, ◌≤◌, Bool, true, false, List, [], ◌∷◌, length, Some, refl, ap, ◌∙◌, subst, arith, eq-eqb, ne_eqb}
 use Rattle.std.specs.Prelude.{◌==◌, if◌then◌else◌, slice_get, slice_index}
 use Rattle.fk_trace.specs.Text.{Range}
 use Rattle.fk_trace.specs.declared.column.Column.{Column}
 use Rattle.fk_trace.specs.declared.column.Column.TheVariants.{Counts, Of}
-use Rattle.fk_replay_text.specs.Trace.{Told, AreRanges, IsLine, Follows, AreInOrder, IsTrace, rank, with_moment, moments_of}
-use Rattle.fk_replay_text.specs.Rounds.{count_in, counts_from, round_of, ranges_at, rounds_from, schedule_of}
+use Rattle.fk_replay_text.specs.Trace.{Told, AreRanges, Follows, AreInOrder, rank, with_moment, moments_of}
+use Rattle.fk_replay_text.specs.Rounds.{counts_from, round_of, ranges_at, rounds_from, schedule_of}
 use Rattle.fk_replay_schedules.specs.Moments.{Moments, AreMoments, AreToCome, TracesHaveMoments}
 
 -- ---- lines

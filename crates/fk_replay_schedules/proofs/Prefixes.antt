@@ -1,10 +1,10 @@
 -- Schedules, cut behind so many rounds.
-use Rattle.std.proofs.Common.{◌≡◌, ℕ, zero, suc, ◌+◌, ◌<◌, ◌≤◌, ◌&&◌, Bool, true, false, inl, inr, List, [], ◌∷◌, Option, Some, None, length, take, refl, sym, ap, ◌∙◌, subst, arith}
+use Rattle.std.proofs.Common.{◌≡◌, ℕ, zero, suc, ◌<◌, ◌&&◌, true, inl, [], ◌∷◌, Option, Some, None, take, refl, ap, arith}
 use Rattle.std.specs.Prelude.{slice_get, is_none}
 use Rattle.std.proofs.lemmas.Bool.{and_parts, false≢true}
 use Rattle.fk_meaning.specs.Processor.{Setting}
-use Rattle.fk_meaning.specs.Round.{Step, State, Round, Fault, result, is_allowed, is_possible, IsStopped}
-use Rattle.fk_meaning.specs.Schedule.{Schedule, ArePossible, run}
+use Rattle.fk_meaning.specs.Round.{Step, State, Round, Fault, result, is_allowed, is_possible}
+use Rattle.fk_meaning.specs.Schedule.{Schedule, ArePossible}
 use Rattle.fk_replay_schedules.specs.Answers.{after}
 
 none_of : (f : Option Fault) → is_none f ≡ true → f ≡ None

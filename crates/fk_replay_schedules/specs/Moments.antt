@@ -2,7 +2,7 @@
 use Rattle.std.specs.Prelude.{◌≡◌, ℕ, ◌<◌, ◌≤◌, List, [], ◌∷◌}
 use Rattle.fk_trace.specs.declared.column.Column.TheVariants.{Counts}
 use Rattle.fk_trace.specs.Text.{Range}
-use Rattle.fk_replay_text.specs.Trace.{Told, AreRanges, AreInOrder, IsTrace, moments_of}
+use Rattle.fk_replay_text.specs.Trace.{Told, AreRanges, IsTrace, moments_of}
 use Rattle.fk_replay_text.specs.Rounds.{ranges_at}
 
 abbrev pub Moments : Type 0
