@@ -131,7 +131,7 @@ module _ (core : List CoreOp) (set : Setting) (schedule : Schedule) (first : Sta
 
         by_last : new ≡ mid → suc n ≡ length schedule → HasDone core set schedule first (suc n) new
         by_last e last =
-            let b = is_behind x.done new x.is (ap (λ (r : Run). record (x.done) { pace = r.pace; arrived = r.arrived }) (sym e) ∙ e) in
+            let b = is_behind x.done new x.is (e ∙ ap (λ (r : Run). record (x.done) { pace = r.pace; arrived = r.arrived }) (sym e)) in
             record { run = b.run; setting = b.setting; state = b.state; given = b.given; passed = passed; paced = λ less. absurd (omega arith); knows = λ less. absurd (omega arith) }
 
         by_others : HasTold core (suc (suc n)) mid new → HasDone core set schedule first (suc n) new
@@ -194,14 +194,18 @@ module _ (core : List CoreOp) (set : Setting) (schedule : Schedule) (first : Sta
     pub many : length round ≡ p
     pub none : (h : ℕ) → slice_index round h ≡ 0
 
-  module _ (n : ℕ) (run : Run) (done : HasDone core set schedule first n run) (empty : IsEmptyAt (processors run.tree) n) where
-    idle : AreIdle (next core) set empty.round (behind n).runners
-    idle = subst (λ (s : State Position). AreIdle (next core) set empty.round s.runners) done.state
-        (are_idle (next core) set empty.round (runners_of run.actors.items)
-        (empty.many ∙ sym done.run.actors ∙ sym (length-map run.actors.items _)) empty.none)
-
+  module _ (steady : AreSteady core set schedule first) (n : ℕ) (run : Run) (done : HasDone core set schedule first n run) (empty : IsEmptyAt (processors run.tree) n) where
     going : (behind n).fault ≡ None
     going = ap (λ (s : State Position). s.fault) (sym done.state)
+
+    many : set.processors ≡ length (behind n).runners
+    many = let there = steady n done.passed going in sym there.stands.tree.many
+
+    harts_are : processors run.tree ≡ set.processors
+    harts_are = sym done.run.setting ∙ ap (λ (σ : Setting). σ.processors) done.setting
+
+    idle : AreIdle (next core) set empty.round (behind n).runners
+    idle = are_idle (next core) set empty.round (behind n).runners (empty.many ∙ harts_are ∙ many) empty.none
 
     same_behind : behind (suc n) ≡ behind n
     same_behind = one_more (next core) set schedule n empty.round first empty.is ∙ idle_result (next core) set empty.round (behind n) idle going
@@ -247,26 +251,26 @@ module _ (core : List CoreOp) (set : Setting) (schedule : Schedule) (first : Sta
         passed_over (next core) set schedule first n empty.round h empty.is done.passed (inl empty_good) late.0 late.1
 
   -- many of them
-  pub empties_done : (count n : ℕ) (run : Run) → HasDone core set schedule first n run → ((k : ℕ) → n ≤ k → k < n + count → IsEmptyAt (processors run.tree) k)
+  pub empties_done : (steady : AreSteady core set schedule first) (count n : ℕ) (run : Run) → HasDone core set schedule first n run → ((k : ℕ) → n ≤ k → k < n + count → IsEmptyAt (processors run.tree) k)
       → AreOnTime run.pace n (n + count) → HasDone core set schedule first (n + count) run
-  empties_done zero n run done empty on_time = subst (λ (m : ℕ). HasDone core set schedule first m run) (omega arith) done
-  empties_done (suc c) n run done empty on_time =
+  empties_done steady zero n run done empty on_time = subst (λ (m : ℕ). HasDone core set schedule first m run) (omega arith) done
+  empties_done steady (suc c) n run done empty on_time =
       subst (λ (m : ℕ). HasDone core set schedule first m run) (omega arith)
-      (empties_done c (suc n) run (empty_done n run done (empty n (omega arith) (omega arith)) (on_time (suc n) (omega arith) (omega arith)))
+      (empties_done steady c (suc n) run (empty_done steady n run done (empty n (omega arith) (omega arith)) (on_time (suc n) (omega arith) (omega arith)))
       (λ k low high. empty k (omega arith) (omega arith)) (λ r low high. on_time r (omega arith) (omega arith)))
 
-  pub empties_late : (n last round h : ℕ) (run : Run) → HasDone core set schedule first n run → ((k : ℕ) → n ≤ k → k < last → IsEmptyAt (processors run.tree) k)
+  pub empties_late : (steady : AreSteady core set schedule first) (n last round h : ℕ) (run : Run) → HasDone core set schedule first n run → ((k : ℕ) → n ≤ k → k < last → IsEmptyAt (processors run.tree) k)
       → IsFirstLate run.pace n last round h → IsPassedOver (next core) set schedule first round h
-  empties_late n last round h run done empty late =
+  empties_late steady n last round h run done empty late =
       let low = late.low in let high = late.high in
       by (round - suc n) (omega arith)
     where
       by : (count : ℕ) → round ≡ suc (n + count) → IsPassedOver (next core) set schedule first round h
       by count e =
           let high = late.high in
-          let before = empties_done count n run done (λ k from to. empty k from (omega (arith, e, high, to))) (λ r from to. late.first r from (omega (arith, e, to))) in
+          let before = empties_done steady count n run done (λ k from to. empty k from (omega (arith, e, high, to))) (λ r from to. late.first r from (omega (arith, e, to))) in
           subst (λ (r : ℕ). IsPassedOver (next core) set schedule first r h) (sym e)
-          (empty_late (n + count) run before (empty (n + count) (omega arith) (omega (arith, e, high))) h (subst (λ (r : ℕ). IsLeastLate run.pace r (Some h)) e late.late))
+          (empty_late steady (n + count) run before (empty (n + count) (omega arith) (omega (arith, e, high))) h (subst (λ (r : ℕ). IsLeastLate run.pace r (Some h)) e late.late))
 
   -- ---- the end
 

@@ -44,7 +44,7 @@ module _ (core : List CoreOp) (set : Setting) (first : State Position) (harts cy
     pub to_come : AreToCome harts cycles (map moment_of items) from (drop i (map moment_of items))
     pub done : HasDone core set (schedule_of harts (map moment_of items) cycles) first from run
 
-module _ (core : List CoreOp) (set : Setting) (first : State Position) (harts cycles : ℕ) (items : List Moment) (harts_are : set.processors ≡ harts) where
+module _ (core : List CoreOp) (set : Setting) (first : State Position) (harts cycles : ℕ) (items : List Moment) (harts_are : set.processors ≡ harts) (steady : AreSteady core set (schedule_of harts (map moment_of items) cycles) first) where
   abbrev moments : Moments
   moments = map moment_of items
 
@@ -100,11 +100,11 @@ module _ (core : List CoreOp) (set : Setting) (first : State Position) (harts cy
         let count : ℕ = m.cycle - 1 - from in
         let sum : from + count ≡ m.cycle - 1 = omega arith in
         subst (λ (n : ℕ). HasDone core set schedule first n run) sum
-        (empties_done core set schedule first count from run following.done (λ k above high. empties k above (omega (arith, sum, high)))
+        (empties_done core set schedule first steady count from run following.done (λ k above high. empties k above (omega (arith, sum, high)))
         (subst (λ (n : ℕ). AreOnTime run.pace from n) (sym sum) on_time))
 
     pub before_late : (fault : ReplayFault) → TellsFirstLate run.pace from (m.cycle - 1) fault → IsUnlawful core set schedule first fault
-    before_late (Pace at h) late = empties_late core set schedule first from (m.cycle - 1) at h run following.done empties late
+    before_late (Pace at h) late = empties_late core set schedule first steady from (m.cycle - 1) at h run following.done empties late
     before_late (BadTrace line) late = absurd late
     before_late (NotPossible at) late = absurd late
     before_late Memory late = absurd late
@@ -139,8 +139,8 @@ module _ (core : List CoreOp) (set : Setting) (first : State Position) (harts cy
     is_last_one is_last e f = let one = number_is in let all = many in e ∙ eq-eqb m.cycle cycles (omega (arith, f, one, all))
 
     module _ (before : HasDone core set schedule first (m.cycle - 1) run) where
-      pub is_steady : AreSteady core set schedule first → IsSteady core (setting_of run.setting) (state_of run)
-      is_steady steady =
+      pub is_steady : IsSteady core (setting_of run.setting) (state_of run)
+      is_steady =
           let there = steady (m.cycle - 1) before.passed (ap (λ (s : State Position). s.fault) (sym before.state)) in
           subst (λ (σ : Setting). IsSteady core σ (state_of run)) (sym before.setting) (subst (λ (s : State Position). IsSteady core set s) (sym before.state) there)
 
@@ -186,11 +186,11 @@ module _ (core : List CoreOp) (set : Setting) (first : State Position) (harts cy
         by zero sum = subst (λ (n : ℕ). HasDone core set schedule first n run) (let all = many in omega (arith, sum, all)) following.done
         by (suc c) sum =
             subst (λ (n : ℕ). HasDone core set schedule first n run) (sum ∙ sym many)
-            (empties_done core set schedule first (suc c) from run following.done (λ k above high. rest_empty k above (omega (arith, sum, high)))
+            (empties_done core set schedule first steady (suc c) from run following.done (λ k above high. rest_empty k above (omega (arith, sum, high)))
             (subst (λ (n : ℕ). AreOnTime run.pace from n) (sym sum) (on_time (omega (arith, sum)))))
 
     pub rest_late : (fault : ReplayFault) → TellsFirstLate run.pace from cycles fault → IsUnlawful core set schedule first fault
-    rest_late (Pace at h) late = empties_late core set schedule first from cycles at h run following.done rest_empty late
+    rest_late (Pace at h) late = empties_late core set schedule first steady from cycles at h run following.done rest_empty late
     rest_late (BadTrace line) late = absurd late
     rest_late (NotPossible at) late = absurd late
     rest_late Memory late = absurd late
