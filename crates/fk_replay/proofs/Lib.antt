@@ -10,3 +10,4 @@ pub mod Leaving
 pub mod Timely
 pub mod Traces
 pub mod Opening
+pub mod Passing
