@@ -1,13 +1,13 @@
 -- Runs before their first round.
-use Rattle.std.proofs.Common.{◌≡◌, ℕ, zero, suc, ◌+◌, ◌<◌, ◌≤◌, ◌^◌, ◌⊎◌, inl, inr, false, List, [], ◌∷◌, ◌++◌, length, map, get_or, Option, Some, None, refl, sym, ap, ap₂, ◌∙◌, subst, arith}
-use Rattle.std.specs.Prelude.{slice_get, slice_index, option_map}
+use Rattle.std.proofs.Common.{◌≡◌, ℕ, zero, suc, ◌+◌, ◌<◌, ◌≤◌, ◌^◌, ◌⊎◌, inl, inr, false, List, [], ◌∷◌, ◌++◌, length, map, replicate, Option, Some, None, refl, sym, ap, ap₂, ◌∙◌, subst, arith}
+use Rattle.std.specs.Prelude.{slice_get, slice_index, option_map, vec_len}
 use Rattle.std.proofs.lemmas.Option.{slice_get-map, slice_get_within, slice_get-get_or}
 use Rattle.fk_tree.specs.Tree as t
 use Rattle.fk_tree.specs.declared.node.Kind.TheVariants.{Asynchronous}
 use Rattle.fk_meaning.specs.Processor.{Processor, Setting}
 use Rattle.fk_meaning.specs.Round.{Runner}
 use Rattle.fk_meaning.specs.Schedule.{beginners, first_processor}
-use Rattle.fk_core.specs.Next.{Position, position}
+use Rattle.fk_core.specs.Next.{Position, position, list_opening}
 use Rattle.fk_replay_rounds.specs.Modes.{mode_of}
 use Rattle.fk_replay_rounds.specs.Own.{IsOwn, AreOwn}
 use Rattle.fk_replay_rounds.specs.declared.mode.Mode.TheVariants.{Apart}
@@ -19,7 +19,15 @@ use Rattle.fk_meaning_operation.specs.declared.kinds.Joint.{Joint}
 use Rattle.fk_meaning_operation.specs.declared.kinds.Joint.TheVariants.{Alone, Starting, AtBarrier, Closing, Resuming}
 use Rattle.fk_replay.specs.declared.run.Arrived.{Arrived}
 use Rattle.fk_replay.specs.Passed.{arrived_in, arrived_at}
-use Rattle.fk_replay.specs.Openings.{IsFirst, AreFirst}
+use Rattle.fk_tree.specs.View.{tree_of, processors}
+use Rattle.fk_meaning_store.specs.Store.{Store, opening_store}
+use Rattle.fk_meaning_store.specs.View.{store_of, processors_of}
+use Rattle.fk_meaning_state.specs.View.{setting_of}
+use Rattle.fk_meaning.specs.Processor as processor
+use Rattle.fk_replay_phases.specs.Present.{AreNone}
+use Rattle.fk_replay.specs.declared.run.Run.{Run}
+use Rattle.fk_replay.specs.Taken.{state_of}
+use Rattle.fk_replay.specs.Openings.{IsFirst, AreFirst, IsOpening}
 
 module _ (set : Setting) (main : ℕ) (firsts : List ℕ) where
   is_runner : (h : ℕ) (a : Actor) → IsFirst set main firsts h a → runner_of a.runner ≡ record { left = position main []; has = first_processor set (slice_index firsts) h }
@@ -114,3 +122,37 @@ none_more items a none s b c h joint = by (slice_get (items ++ a ∷ []) h) refl
     by : (o : Option Arrived) → slice_get (items ++ a ∷ []) h ≡ o → arrived_at (items ++ a ∷ []) h joint ≡ 0
     by None e = ap (λ (o : Option Arrived). arrived_in o joint) e
     by (Some x) e = ap (λ (o : Option Arrived). arrived_in o joint) e ∙ there x (get_more items a x h e)
+
+-- ---- the whole run
+
+module _ (main : ℕ) (words firsts input : List ℕ) (p : ℕ) (r : Run) where
+  abbrev set : Setting
+  set = processor.setting_of p words input
+
+  pub state_opened : store_of r.store ≡ opening_store words input → tree_of r.tree ≡ t.root p → AreFirst set main firsts p r.actors.items → state_of r ≡ list_opening main words firsts input p
+  state_opened store tree first =
+      ap (λ (s : Store). record { store = s; tree = tree_of r.tree; runners = runners_of r.actors.items; fault = None }) store
+      ∙ ap₂ (λ (u : t.Tree) (rs : List (Runner Position)). record { store = opening_store words input; tree = u; runners = rs; fault = None }) tree
+      (first_runners set main firsts p r.actors.items first)
+
+  pub is_opening : p ≤ 1024 → store_of r.store ≡ opening_store words input → processors_of r.store ≡ p → tree_of r.tree ≡ t.root p → processors r.tree ≡ p
+      → setting_of r.setting ≡ set → AreFirst set main firsts p r.actors.items → vec_len r.actors ≡ p → AreNone p r.counts.items → r.pace ≡ replicate p None → NoneArrived r.arrived.items
+      → IsOpening main words firsts input p r
+  is_opening few store stored tree treed setting first many counts pace arrived = record {
+    run = record {
+      few = omega (arith, few, treed);
+      setting = ap (λ (σ : Setting). σ.processors) setting ∙ sym treed;
+      store = stored ∙ sym treed;
+      actors = many ∙ sym treed;
+      counts = subst (λ (n : ℕ). AreNone n r.counts.items) (sym treed) counts;
+      free = first_free set main firsts p r.actors.items first;
+      modes = subst (λ (u : t.Tree). HaveModes u r.actors.items) (sym tree) (first_modes set main firsts p p r.actors.items first);
+      own = first_own set main firsts p r.actors.items first;
+    };
+    tree = treed;
+    setting = setting;
+    state = state_opened store tree first;
+    given = subst (λ (u : t.Tree). u.given ≤ 1) (sym tree) (let one : 1 ≤ 1 = omega arith in one);
+    pace = pace;
+    arrived = arrived;
+  }
