@@ -69,12 +69,9 @@ module _ (set : Setting) (main : ℕ) (firsts : List ℕ) where
 -- one more element
 get_more : {X : Type 0} (xs : List X) (x y : X) (j : ℕ) → slice_get (xs ++ x ∷ []) j ≡ Some y → (slice_get xs j ≡ Some y) ⊎ ((j ≡ length xs) × (x ≡ y))
 get_more [] x y zero e = let same : x ≡ y = cc in inr (refl, same)
-get_more {X} [] x y (suc j) e = absurd (none j e)
-  where
-    none : (j : ℕ) → slice_get ([] : List X) j ≡ Some y → ⊥
-    none j e = let clash : None ≡ Some y = e in cc
+get_more [] x y (suc j) e = let clash : None ≡ Some y = e in absurd (cc)
 get_more (z ∷ xs) x y zero e = inl e
-get_more {X} (z ∷ xs) x y (suc j) e = up (get_more xs x y j e)
+get_more (z ∷ xs) x y (suc j) e = up (get_more xs x y j e)
   where
     up : (slice_get xs j ≡ Some y) ⊎ ((j ≡ length xs) × (x ≡ y)) → (slice_get (z ∷ xs) (suc j) ≡ Some y) ⊎ ((suc j ≡ length (z ∷ xs)) × (x ≡ y))
     up (inl f) = inl f

@@ -1,14 +1,15 @@
 -- What a round makes of a run and its pace.
 use Rattle.std.proofs.Common.{◌≡◌, ℕ, suc, Bool, true, false, true≢false, ◌⊎◌, inl, inr, List, Option, Some, None, refl, sym, ap, ◌∙◌, subst}
 use Rattle.fk_meaning_state.specs.View.{setting_of}
-use Rattle.fk_meaning.specs.Round.{State, Round, result, is_possible, IsStopped}
+use Rattle.fk_meaning.specs.Round.{Round}
 use Rattle.fk_core.specs.declared.op.CoreOp.{CoreOp}
-use Rattle.fk_core.specs.Next.{Position, next}
+use Rattle.fk_core.specs.Next.{next}
 use Rattle.fk_replay_text.specs.declared.fault.ReplayFault.{ReplayFault}
 use Rattle.fk_replay_text.specs.declared.fault.ReplayFault.TheVariants.{BadTrace, NotPossible, Pace, Memory}
 use Rattle.fk_replay_schedules.specs.Paced.{Leaves}
 use Rattle.fk_replay_schedules.proofs.Prefixes.{no_fault}
 use Rattle.fk_replay_steps.specs.Pace.{Absences, IsLeastLate, since}
+use Rattle.fk_replay_phases.specs.Actors.{fault_of}
 use Rattle.fk_replay_phases.specs.declared.phases.Fault.{Fault}
 use Rattle.fk_replay.specs.declared.run.Run.{Run}
 use Rattle.fk_replay.specs.Taken.{IsDone, IsStoppedBy, IsNeither, state_of}
@@ -23,11 +24,9 @@ module _ (core : List CoreOp) (round : Round) (number : ℕ) (is_last : Bool) (o
   bad_neither mid x (inr e) = x.going_on e.1
 
   pub bad_in_the_middle : (mid : Run) (fault : Fault) → IsStoppedBy core round old mid fault → is_last ≡ false → Good → ⊥
-  bad_in_the_middle mid fault x no (inl e) = clash (no_fault (next core) (setting_of old.setting) round (state_of old) e) x.fault
-    where
-      clash : {f : _} → (result (next core) (setting_of old.setting) round (state_of old)).fault ≡ None → (result (next core) (setting_of old.setting) round (state_of old)).fault ≡ Some f → ⊥
-      clash {f} none some = let both : None ≡ Some f = sym none ∙ some in cc
-  bad_in_the_middle mid fault x no (inr e) = true≢false (sym e.0 ∙ no)
+  bad_in_the_middle mid fault x other (inl e) =
+      let both : None ≡ Some (fault_of core fault) = sym (no_fault (next core) (setting_of old.setting) round (state_of old) e) ∙ x.fault in cc
+  bad_in_the_middle mid fault x other (inr e) = true≢false (sym e.0 ∙ other)
 
   pub good_done : (mid : Run) → IsDone core round old mid → Good
   good_done mid x = inl x.possible
