@@ -1,7 +1,8 @@
 //! Who could act.
 
-ghost use Rattle.std.specs.Prelude.{◌≡◌, ◌^◌, ◌<◌, None, length, replicate};
+ghost use Rattle.std.specs.Prelude.{◌≡◌, ℕ, ◌^◌, ◌<◌, None, length, replicate};
 ghost use Rattle.fk_tree.specs.View.{processors};
+ghost use Rattle.fk_meaning_operation.specs.declared.kinds.Joint as kinds;
 ghost use Rattle.fk_meaning_state.specs.View.{setting_of};
 ghost use Rattle.fk_replay_phases.specs.Present.{numbers_of};
 ghost use Rattle.fk_replay.specs.Steady.{IsSteady};
@@ -54,7 +55,7 @@ impl Run {
         requires run { IsRun self.old }
         requires steady { IsSteady ops.now (setting_of self.old.setting) (state_of self.old) }
         requires pace { self.old.pace ≡ replicate (processors self.old.tree) None }
-        requires arrived { (h) (joint) → arrived_at self.old.arrived.items h joint ≡ 0 }
+        requires arrived { (h : ℕ) (joint : kinds.Joint) → arrived_at self.old.arrived.items h joint ≡ 0 }
         ensures { HasTold ops.now 1 self.old self.new }
     {
         for number in 0..self.setting.processors {

@@ -4,6 +4,7 @@ ghost use Rattle.std.specs.Prelude.{◌≡◌, ◌+◌, ◌^◌, ◌<◌, ◌≤
 ghost use Rattle.std.specs.Prelude.{None};
 ghost use Rattle.fk_tree.specs.View.{tree_of, processors};
 ghost use Rattle.fk_meaning_state.specs.View.{setting_of};
+ghost use Rattle.fk_meaning.specs.Round.{Round};
 ghost use Rattle.fk_replay_text.specs.View.{range_of, moment_of};
 ghost use Rattle.fk_replay_text.specs.Rounds.{round_of};
 ghost use Rattle.fk_replay_schedules.specs.Paced.{Leaves};
@@ -54,7 +55,7 @@ fn pass_empty(pace: &Pace, behind: u32, last: u32) -> Result<(), ReplayFault>
 
 /// Those who are in a round are no longer absent.
 fn leave(acting: &[Acting], pace: &mut Pace)
-    ensures { (round) → numbers_of acting.now ≡ present 0 round
+    ensures { (round : Round) → numbers_of acting.now ≡ present 0 round
         → Leaves round (since pace.old) (since pace.new) }
 {
     for member in acting {

@@ -1,6 +1,7 @@
 //! The state of a run.
 
-ghost use Rattle.std.specs.Prelude.{◌≡◌, ◌+◌, ◌^◌, ◌<◌, ◌≤◌, length, option_map, IfOk};
+ghost use Rattle.std.specs.Prelude.{◌≡◌, ℕ, ◌+◌, ◌^◌, ◌<◌, ◌≤◌, length, option_map, IfOk};
+ghost use Rattle.fk_meaning_operation.specs.declared.kinds.Joint as kinds;
 ghost use Rattle.fk_meaning_state.specs.View.{setting_of};
 ghost use Rattle.fk_meaning.specs.Schedule.{all_done, stand_by};
 ghost use Rattle.fk_core.specs.Next.{next};
@@ -84,7 +85,7 @@ fn first_actors(
 
 /// Nobody stands at a joint operation.
 fn none_arrived(alloc: Global, processors: u32) -> Result<Vec<Arrived>, AllocError>
-    ensures { IfOk result (λ arrived. (h) (joint) → arrived_at arrived.items h joint ≡ 0) }
+    ensures { IfOk result (λ arrived. (h : ℕ) (joint : kinds.Joint) → arrived_at arrived.items h joint ≡ 0) }
 {
     let mut arrived = Vec::new(alloc);
     for _number in 0..processors {

@@ -2,5 +2,5 @@
 use Rattle.fk_replay.proofs.Opening.{NoneArrived}
 use Rattle.fk_replay.proofs.run.none_arrived.Given as goal
 
-abbrev pub invariant-loop-_number : goal.invariant-loop-_number
-invariant-loop-_number l = NoneArrived l.arrived.items
+abbrev pub invariant-loop-number : goal.invariant-loop-number
+invariant-loop-number l = NoneArrived l.arrived.items
