@@ -18,7 +18,7 @@ use Rattle.fk_replay_phases.specs.declared.actor.Actor.{Actor}
 use Rattle.fk_meaning_operation.specs.declared.kinds.Joint.{Joint}
 use Rattle.fk_meaning_operation.specs.declared.kinds.Joint.TheVariants.{Alone, Starting, AtBarrier, Closing, Resuming}
 use Rattle.fk_replay.specs.declared.run.Arrived.{Arrived}
-use Rattle.fk_replay.specs.Passed.{arrived_in, arrived_at}
+use Rattle.fk_replay.specs.Passed.{arrived_in, arrived_at, NoneArrived}
 use Rattle.fk_tree.specs.View.{tree_of, processors}
 use Rattle.fk_meaning_store.specs.Store.{Store, opening_store}
 use Rattle.fk_meaning_store.specs.View.{store_of, processors_of}
@@ -97,10 +97,6 @@ module _ (set : Setting) (main : ℕ) (firsts : List ℕ) where
       by : (h : ℕ) (b : Actor) → (slice_get actors h ≡ Some b) ⊎ ((h ≡ length actors) × (a ≡ b)) → IsFirst set main firsts h b
       by h b (inl e) = x.each h b e
       by h b (inr e) = subst (λ (g : ℕ). IsFirst set main firsts g b) (sym (e.0 ∙ x.many)) (subst (IsFirst set main firsts count) e.1 y)
-
--- nobody has arrived
-abbrev pub NoneArrived : List Arrived → Type 0
-NoneArrived items = (h : ℕ) (joint : Joint) → arrived_at items h joint ≡ 0
 
 pub none_more : (items : List Arrived) (a : Arrived) → NoneArrived items → a.starting ≡ 0 → a.at_barrier ≡ 0 → a.closing ≡ 0 → NoneArrived (items ++ a ∷ [])
 none_more items a none s b c h joint = by (slice_get (items ++ a ∷ []) h) refl

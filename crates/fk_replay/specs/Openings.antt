@@ -1,7 +1,6 @@
 -- A run in memory before its first round.
 use Rattle.std.specs.Prelude.{◌≡◌, ℕ, ◌<◌, ◌≤◌, List, [], None, Some, length, replicate, slice_get, slice_index}
 use Rattle.fk_tree.specs.View.{tree_of, processors}
-use Rattle.fk_meaning_operation.specs.declared.kinds.Joint.{Joint}
 use Rattle.fk_meaning_state.specs.View.{setting_of}
 use Rattle.fk_meaning.specs.Processor.{Setting}
 use Rattle.fk_meaning.specs.Schedule.{first_processor}
@@ -10,7 +9,7 @@ use Rattle.fk_replay_rounds.specs.declared.mode.Mode.TheVariants.{Apart}
 use Rattle.fk_replay_phases.specs.declared.actor.Actor.{Actor}
 use Rattle.fk_replay_steps.specs.Steps.{runner_of}
 use Rattle.fk_replay.specs.declared.run.Run.{Run}
-use Rattle.fk_replay.specs.Passed.{arrived_at}
+use Rattle.fk_replay.specs.Passed.{NoneArrived}
 use Rattle.fk_replay.specs.Taken.{IsRun, state_of}
 use Rattle.fk_replay.specs.Replay as replay
 
@@ -34,4 +33,4 @@ pub record IsOpening (main : ℕ) (words firsts input : List ℕ) (p : ℕ) (r :
   pub state : state_of r ≡ list_opening main words firsts input p
   pub given : (tree_of r.tree).given ≤ 1
   pub pace : r.pace ≡ replicate p None
-  pub arrived : (h : ℕ) (joint : Joint) → arrived_at r.arrived.items h joint ≡ 0
+  pub arrived : NoneArrived r.arrived.items

@@ -59,6 +59,10 @@ arrived_in arrived joint = 0
 abbrev pub arrived_at : List Arrived → (processor : ℕ) → Joint → ℕ
 arrived_at items h joint = arrived_in (slice_get items h) joint
 
+-- nobody has come to a joint operation
+abbrev pub NoneArrived : List Arrived → Type 0
+NoneArrived items = (h : ℕ) (joint : Joint) → arrived_at items h joint ≡ 0
+
 module _ (core : List CoreOp) where
   -- it is known who could act, but for what is changed by those who are still to come
   abbrev pub KnowsAbout : Run → (coming : List ℕ) → Type 0

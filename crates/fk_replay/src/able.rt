@@ -1,13 +1,12 @@
 //! Who could act.
 
-ghost use Rattle.std.specs.Prelude.{◌≡◌, ℕ, ◌^◌, ◌<◌, None, length, replicate};
+ghost use Rattle.std.specs.Prelude.{◌≡◌, ◌^◌, ◌<◌, None, length, replicate};
 ghost use Rattle.fk_tree.specs.View.{processors};
-ghost use Rattle.fk_meaning_operation.specs.declared.kinds.Joint as kinds;
 ghost use Rattle.fk_meaning_state.specs.View.{setting_of};
 ghost use Rattle.fk_replay_phases.specs.Present.{numbers_of};
 ghost use Rattle.fk_replay.specs.Steady.{IsSteady};
 ghost use Rattle.fk_replay.specs.Taken.{IsRun, state_of};
-ghost use Rattle.fk_replay.specs.Passed.{HasTold, KnowsAbout, arrived_at};
+ghost use Rattle.fk_replay.specs.Passed.{HasTold, KnowsAbout, NoneArrived};
 
 use crate::run::{Arrived, Run};
 use fk_core::CoreOp;
@@ -55,7 +54,7 @@ impl Run {
         requires run { IsRun self.old }
         requires steady { IsSteady ops.now (setting_of self.old.setting) (state_of self.old) }
         requires pace { self.old.pace ≡ replicate (processors self.old.tree) None }
-        requires arrived { (h : ℕ) (joint : kinds.Joint) → arrived_at self.old.arrived.items h joint ≡ 0 }
+        requires arrived { NoneArrived self.old.arrived.items }
         ensures { HasTold ops.now 1 self.old self.new }
     {
         for number in 0..self.setting.processors {

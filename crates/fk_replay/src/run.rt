@@ -1,12 +1,11 @@
 //! The state of a run.
 
-ghost use Rattle.std.specs.Prelude.{◌≡◌, ℕ, ◌+◌, ◌^◌, ◌<◌, ◌≤◌, length, option_map, IfOk};
-ghost use Rattle.fk_meaning_operation.specs.declared.kinds.Joint as kinds;
+ghost use Rattle.std.specs.Prelude.{◌≡◌, ◌+◌, ◌^◌, ◌<◌, ◌≤◌, length, option_map, IfOk};
 ghost use Rattle.fk_meaning_state.specs.View.{setting_of};
 ghost use Rattle.fk_meaning.specs.Schedule.{all_done, stand_by};
 ghost use Rattle.fk_core.specs.Next.{next};
 ghost use Rattle.fk_replay_phases.specs.Actors.{runners_of, fault_of};
-ghost use Rattle.fk_replay.specs.Passed.{arrived_at};
+ghost use Rattle.fk_replay.specs.Passed.{NoneArrived};
 ghost use Rattle.fk_replay.specs.Openings.{IsOpening, IsFirst, AreFirst};
 ghost use Rattle.fk_replay.specs.Replay.{stand_in};
 
@@ -85,7 +84,7 @@ fn first_actors(
 
 /// Nobody stands at a joint operation.
 fn none_arrived(alloc: Global, processors: u32) -> Result<Vec<Arrived>, AllocError>
-    ensures { IfOk result (λ arrived. (h : ℕ) (joint : kinds.Joint) → arrived_at arrived.items h joint ≡ 0) }
+    ensures { IfOk result (λ arrived. NoneArrived arrived.items) }
 {
     let mut arrived = Vec::new(alloc);
     for _number in 0..processors {
