@@ -56,8 +56,8 @@ module _ (core : List CoreOp) (main : ℕ) (words firsts input : List ℕ) (p : 
   are_steady schedule some few orderly safe n passed running =
       let possible : ArePossible (next core) set (take n schedule) first = first_possible (next core) set schedule first n passed.possible in
       let steady : IsSteadyInTree (next core) (λ (w : Position). landing core w.at) set (after (next core) set schedule first n) =
-          runs_are_steady Position ℕ (next core) (λ (w : Position). landing core w.at) (position main []) orderly p words firsts input (take n schedule) some
-          (words_are_space (length words) (length input) p few) possible running in
+      runs_are_steady Position ℕ (next core) (λ (w : Position). landing core w.at) (position main []) orderly p words firsts input (take n schedule) some
+      (words_are_space (length words) (length input) p few) possible running in
       record {
         running = running;
         stands = steady.stands;
