@@ -18,7 +18,7 @@ use Rattle.fk_replay_phases.specs.declared.actor.Actor.{Actor}
 use Rattle.fk_meaning_operation.specs.declared.kinds.Joint.{Joint}
 use Rattle.fk_meaning_operation.specs.declared.kinds.Joint.TheVariants.{Alone, Starting, AtBarrier, Closing, Resuming}
 use Rattle.fk_replay.specs.declared.run.Arrived.{Arrived}
-use Rattle.fk_replay.specs.Passed.{arrived_in, arrived_at, NoneArrived}
+use Rattle.fk_replay.specs.Arrivals.{arrived_in, arrived_at, NoneArrived}
 use Rattle.fk_tree.specs.View.{tree_of, processors}
 use Rattle.fk_meaning_store.specs.Store.{Store, opening_store}
 use Rattle.fk_meaning_store.specs.View.{store_of, processors_of}

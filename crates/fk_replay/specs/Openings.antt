@@ -9,7 +9,7 @@ use Rattle.fk_replay_rounds.specs.declared.mode.Mode.TheVariants.{Apart}
 use Rattle.fk_replay_phases.specs.declared.actor.Actor.{Actor}
 use Rattle.fk_replay_steps.specs.Steps.{runner_of}
 use Rattle.fk_replay.specs.declared.run.Run.{Run}
-use Rattle.fk_replay.specs.Passed.{NoneArrived}
+use Rattle.fk_replay.specs.Arrivals.{NoneArrived}
 use Rattle.fk_replay.specs.Taken.{IsRun, state_of}
 use Rattle.fk_replay.specs.Replay as replay
 

@@ -1,8 +1,6 @@
 -- What becomes of a run and its pace in one round of a trace, and in rounds without acts.
 use Rattle.std.specs.Prelude.{◌≡◌, ℕ, suc, ◌<◌, ◌≤◌, Bool, true, false, ◌⊎◌, List, [], Option}
-use Rattle.std.specs.Prelude.{Some, None, is_some, slice_get}
-use Rattle.fk_meaning_operation.specs.declared.kinds.Joint.{Joint}
-use Rattle.fk_meaning_operation.specs.declared.kinds.Joint.TheVariants.{Starting, AtBarrier, Closing}
+use Rattle.std.specs.Prelude.{Some, None, is_some}
 use Rattle.fk_meaning_state.specs.View.{setting_of}
 use Rattle.fk_meaning.specs.Round.{Round, is_possible, IsStopped}
 use Rattle.fk_core.specs.declared.op.CoreOp.{CoreOp}
@@ -14,8 +12,8 @@ use Rattle.fk_replay_schedules.specs.Paced.{Leaves, Begins}
 use Rattle.fk_replay_able.specs.Known.{KnowsAble}
 use Rattle.fk_replay_steps.specs.Pace.{Absences, IsLeastLate, since}
 use Rattle.fk_replay_phases.specs.declared.phases.Fault.{Fault}
-use Rattle.fk_replay.specs.declared.run.Arrived.{Arrived}
 use Rattle.fk_replay.specs.declared.run.Run.{Run}
+use Rattle.fk_replay.specs.Arrivals.{arrived_at}
 use Rattle.fk_replay.specs.Taken.{IsDone, IsStoppedBy, state_of}
 
 -- ---- late rounds
@@ -49,19 +47,6 @@ TellsFirstLate absences behind last Memory = ⊥
 
 abbrev pub is_able : Absences → (processor : ℕ) → Bool
 is_able absences h = is_some (since absences h)
-
-abbrev pub arrived_in : Option Arrived → Joint → ℕ
-arrived_in (Some arrived) Starting = arrived.starting
-arrived_in (Some arrived) AtBarrier = arrived.at_barrier
-arrived_in (Some arrived) Closing = arrived.closing
-arrived_in arrived joint = 0
-
-abbrev pub arrived_at : List Arrived → (processor : ℕ) → Joint → ℕ
-arrived_at items h joint = arrived_in (slice_get items h) joint
-
--- nobody has come to a joint operation
-abbrev pub NoneArrived : List Arrived → Type 0
-NoneArrived items = (h : ℕ) (joint : Joint) → arrived_at items h joint ≡ 0
 
 module _ (core : List CoreOp) where
   -- it is known who could act, but for what is changed by those who are still to come

@@ -6,7 +6,8 @@ ghost use Rattle.fk_meaning_state.specs.View.{setting_of};
 ghost use Rattle.fk_replay_phases.specs.Present.{numbers_of};
 ghost use Rattle.fk_replay.specs.Steady.{IsSteady};
 ghost use Rattle.fk_replay.specs.Taken.{IsRun, state_of};
-ghost use Rattle.fk_replay.specs.Passed.{HasTold, KnowsAbout, NoneArrived};
+ghost use Rattle.fk_replay.specs.Passed.{HasTold, KnowsAbout};
+ghost use Rattle.fk_replay.specs.Arrivals.{NoneArrived};
 
 use crate::run::{Arrived, Run};
 use fk_core::CoreOp;

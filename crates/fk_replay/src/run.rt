@@ -5,7 +5,7 @@ ghost use Rattle.fk_meaning_state.specs.View.{setting_of};
 ghost use Rattle.fk_meaning.specs.Schedule.{all_done, stand_by};
 ghost use Rattle.fk_core.specs.Next.{next};
 ghost use Rattle.fk_replay_phases.specs.Actors.{runners_of, fault_of};
-ghost use Rattle.fk_replay.specs.Passed.{NoneArrived};
+ghost use Rattle.fk_replay.specs.Arrivals.{NoneArrived};
 ghost use Rattle.fk_replay.specs.Openings.{IsOpening, IsFirst, AreFirst};
 ghost use Rattle.fk_replay.specs.Replay.{stand_in};
 
