@@ -178,7 +178,7 @@ module _ (core : List CoreOp) (set : Setting) (round : Round) (s : State Positio
   waits steady after store fault asks last h first parts some low kind =
       let found = may_one round s.runners h asks.may some in
       let only : (step : Step Position) → next core found.0.left ≡ Some step → step.operation ≡ Resume =
-          λ step e. waiters_resume Position (next core) set (ranges_of s) s h first parts found.0 step steady.stands.tree kind found.1 e in
+      λ step e. waiters_resume Position (next core) set (ranges_of s) s h first parts found.0 step steady.stands.tree kind found.1 e in
       let not_above : nat_lt last h ≡ false = grind arith in
       ap (λ b. joint_by core b (slice_get after h)) not_above ∙ taken_joint after store fault asks h
       ∙ begin_joint round s.runners h found.0 found.1 some ∙ resumes_of found.0 (slice_index round h) only some found.2

@@ -100,7 +100,7 @@ module _ (core : List CoreOp) (setting : Setting) (round : Round) (s : State Pos
   others_of : (xs : List Actor) (as' : List (Acting Position)) → actings_of core xs ≡ as' → (h : ℕ) (a : Actor) → slice_get xs h ≡ Some a → (r : rounds.Runner Position) → slice_get as' h ≡ Some (taking r None) → a.taken ≡ None
   others_of xs as' e h a is r there =
       let same : Some (acting_of core a) ≡ Some (taking r None) =
-          ap (option_map (acting_of core)) (sym is) ∙ sym (get_map (acting_of core) xs h) ∙ ap (λ ys. slice_get ys h) e ∙ there in
+      ap (option_map (acting_of core)) (sym is) ∙ sym (get_map (acting_of core) xs h) ∙ ap (λ ys. slice_get ys h) e ∙ there in
       let a_is : acting_of core a ≡ taking r None = cc in
       untaken core a (ap (λ (x : Acting Position). x.due) a_is)
 

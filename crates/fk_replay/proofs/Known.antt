@@ -129,10 +129,12 @@ module _ (core : List CoreOp) (tree : Tree) (actors : List Actor) (p : ℕ) (sou
               let fits = subst (StepFits tree (tree.places h)) (sym same) (known.fits (tree.places h) operation e) in
               record {
                 needs = fits_needs due.operation tree (tree.places h) fits (resumes h a due is taken);
-                divide = λ by is_split. record { same = λ k has.
-                    ap (λ (q : Processor). parts by (values q)) (sym (who_is core actors k))
-                    ∙ known.divide (tree.places h) k by (e ∙ ap Some (sym same ∙ is_split)) has
-                    ∙ ap (λ (q : Processor). parts by (values q)) (who_is core actors (lowest (t.members tree (tree.places h)))) };
+                divide = λ by is_split. record {
+                  same = λ k has.
+                      ap (λ (q : Processor). parts by (values q)) (sym (who_is core actors k))
+                      ∙ known.divide (tree.places h) k by (e ∙ ap Some (sym same ∙ is_split)) has
+                      ∙ ap (λ (q : Processor). parts by (values q)) (who_is core actors (lowest (t.members tree (tree.places h))));
+                };
                 few = few_of;
               }
 
@@ -313,10 +315,10 @@ module _ (core : List CoreOp) (tree : Tree) (actors : List Actor) (p : ℕ) (sou
             let goes : first_part count h ≡ Some 0 = with_true (nat_lt h count) (Some 0) None is_in_part in
             let there : new.places h ≡ steps.first (tree.places h) + 0 = member_place ∙ ap (place_in (tree.places h) (steps.first (tree.places h))) goes in
             let node : new.nodes (steps.first (tree.places h) + 0) ≡ (tree_by tree (who (actings_of core actors)) (steps.first (tree.places h)) (tree.places h) (Some o.Begin)).nodes (steps.first (tree.places h) + 0) =
-                part_by (tree.places h) (steps.first (tree.places h) + 0) (Some o.Begin) e (omega arith) (omega arith) in
+            part_by (tree.places h) (steps.first (tree.places h) + 0) (Some o.Begin) e (omega arith) (omega arith) in
             let made = with_true (is_from (steps.first (tree.places h)) 1 (steps.first (tree.places h) + 0)) (node_of (filter (λ k. is_in (steps.first (tree.places h) + 0 - steps.first (tree.places h)) (first_part count k)) (t.members tree 0)) 0 Lockstep) ((with_kind 0 (Waiting (steps.first (tree.places h)) 1) (record tree { given = steps.first (tree.places h) })).nodes (steps.first (tree.places h) + 0)) (from_first (steps.first (tree.places h)) 1 0 (omega arith)) in
             let passes : is_in (steps.first (tree.places h) + 0 - steps.first (tree.places h)) (first_part count h) ≡ true =
-                ap (is_in (steps.first (tree.places h) + 0 - steps.first (tree.places h))) goes ∙ (let z : (steps.first (tree.places h) + 0 - steps.first (tree.places h) == 0) ≡ true = grind arith in z) in
+            ap (is_in (steps.first (tree.places h) + 0 - steps.first (tree.places h))) goes ∙ (let z : (steps.first (tree.places h) + 0 - steps.first (tree.places h) == 0) ≡ true = grind arith in z) in
             kind_at h (steps.first (tree.places h) + 0) (node_of (filter (λ k. is_in (steps.first (tree.places h) + 0 - steps.first (tree.places h)) (first_part count k)) (t.members tree 0)) 0 Lockstep) there (node ∙ made)
             ∙ ap mode_of (kept_kind (λ k. is_in (steps.first (tree.places h) + 0 - steps.first (tree.places h)) (first_part count k)) (t.members tree 0) h 0 Lockstep has passes)
             ∙ sym (ap entered_mode o')
@@ -476,7 +478,7 @@ module _ (core : List CoreOp) (tree : Tree) (actors : List Actor) (p : ℕ) (sou
             let turned_it = with_true (tree.places h == tree.places h) (turned (Waiting (steps.first (tree.places h)) count) (tree.nodes (tree.places h))) (tree.nodes (tree.places h)) (same_eq (tree.places h)) in
             enters_none by (values (processor_of a.runner.processor)) none
             ∙ sym (kind_at h (tree.places h) (turned (Waiting (steps.first (tree.places h)) count) (tree.nodes (tree.places h))) there (node ∙ not_new ∙ turned_it)
-                ∙ ap mode_of (turned_kind (tree.places h) (Waiting (steps.first (tree.places h)) count) h has))
+            ∙ ap mode_of (turned_kind (tree.places h) (Waiting (steps.first (tree.places h)) count) h has))
         by_part (Some i) some =
             let there : new.places h ≡ steps.first (tree.places h) + i = place ∙ ap (place_in (tree.places h) (steps.first (tree.places h))) some in
             let below_own = part_below by (values (processor_of a.runner.processor)) i some in
@@ -484,11 +486,11 @@ module _ (core : List CoreOp) (tree : Tree) (actors : List Actor) (p : ℕ) (sou
             let node = part_by (tree.places h) (steps.first (tree.places h) + i) (Some (o.Split by)) e (omega arith) (omega arith) in
             let made = with_true (is_from (steps.first (tree.places h)) count (steps.first (tree.places h) + i)) (node_of (filter (λ k. is_in (steps.first (tree.places h) + i - steps.first (tree.places h)) (part by (values (who (actings_of core actors) k)))) (t.members tree (tree.places h))) (tree.places h) Lockstep) ((with_kind (tree.places h) (Waiting (steps.first (tree.places h)) count) (record tree { given = steps.first (tree.places h) })).nodes (steps.first (tree.places h) + i)) (from_first (steps.first (tree.places h)) count i (omega arith)) in
             let passes : is_in (steps.first (tree.places h) + i - steps.first (tree.places h)) (part by (values (who (actings_of core actors) h))) ≡ true =
-                ap (λ (q : Processor). is_in (steps.first (tree.places h) + i - steps.first (tree.places h)) (part by (values q))) (who_h h a is)
-                ∙ ap (is_in (steps.first (tree.places h) + i - steps.first (tree.places h))) some ∙ diff (steps.first (tree.places h)) i in
+            ap (λ (q : Processor). is_in (steps.first (tree.places h) + i - steps.first (tree.places h)) (part by (values q))) (who_h h a is)
+            ∙ ap (is_in (steps.first (tree.places h) + i - steps.first (tree.places h))) some ∙ diff (steps.first (tree.places h)) i in
             enters_some by (values (processor_of a.runner.processor)) i some
             ∙ sym (kind_at h (steps.first (tree.places h) + i) (node_of (filter (λ k. is_in (steps.first (tree.places h) + i - steps.first (tree.places h)) (part by (values (who (actings_of core actors) k)))) (t.members tree (tree.places h))) (tree.places h) Lockstep) there (node ∙ made)
-                ∙ ap mode_of (kept_kind (λ k. is_in (steps.first (tree.places h) + i - steps.first (tree.places h)) (part by (values (who (actings_of core actors) k)))) (t.members tree (tree.places h)) h (tree.places h) Lockstep has passes))
+            ∙ ap mode_of (kept_kind (λ k. is_in (steps.first (tree.places h) + i - steps.first (tree.places h)) (part by (values (who (actings_of core actors) k)))) (t.members tree (tree.places h)) h (tree.places h) Lockstep has passes))
 
     -- ---- all steps
 
@@ -536,7 +538,7 @@ module _ (core : List CoreOp) (tree : Tree) (actors : List Actor) (p : ℕ) (sou
                 → mode_as (agreed_by tree actors h) (lowest (t.members tree (tree.places h))) (tree.places h == 0) a (Some due) ≡ mode_of (t.kind new (new.places h))
             by_does None e tells_it =
                 keeps_mode due.operation (subst (λ d. KeepsOrDoes d (Some (step_at core (callers_of a.runner) due))) e tells_it)
-                    (goes_onward due.operation (agreed_by tree actors h) (lowest (t.members tree (tree.places h))) (processor_of a.runner.processor)) (tree.places h == 0) a.mode
+                (goes_onward due.operation (agreed_by tree actors h) (lowest (t.members tree (tree.places h))) (processor_of a.runner.processor)) (tree.places h == 0) a.mode
                 ∙ modes.each h a is ∙ sym (quiet h (within h a is) e)
             by_does (Some operation) e tells_it =
                 let same : due.operation ≡ operation = subst (λ d. KeepsOrDoes d (Some (step_at core (callers_of a.runner) due))) e tells_it in

@@ -1,7 +1,13 @@
-pub mod Lawful
 pub mod Ranges
 pub mod Last
 pub mod Known
 pub mod Composed
 pub mod Taking
 pub mod Facts
+pub mod Following
+pub mod Replays
+pub mod Leaving
+pub mod Timely
+pub mod Traces
+pub mod Opening
+pub mod Passing

@@ -257,7 +257,7 @@ enlists_more harts ranges i counts r at lt is =
     by_place n h less split (inl low) (inr bound) =
         ap (λ (b : Bool). if b then r.number else slice_index counts h) (not_yet r h low) ∙ at.counts_to.behind h bound
         ∙ sym (at.counts_to.rest h bound ∙ ap (λ rs. count_in rs h) split ∙ ap (λ (b : Bool). if b then r.number else count_in (drop (i + 1) ranges) h) (not_yet r h low)
-            ∙ none_below harts r (drop (i + 1) ranges) h n.rise (omega arith))
+        ∙ none_below harts r (drop (i + 1) ranges) h n.rise (omega arith))
     by_place n h less split (inr high) bound =
         let b_le : at.bound ≤ h = let low = n.low in omega arith in
         ap (λ (b : Bool). if b then r.number else slice_index counts h) (inside r h high (omega arith))

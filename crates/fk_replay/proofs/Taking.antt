@@ -118,5 +118,5 @@ module _ (core : List CoreOp) (round : Round) (old : Run) where
       → StopsTell (next core) (setting_of old.setting) round (state_of old) → IsNeither core round old new
   is_neither_stopping new after store fault many asks neither tells =
       let both = not_stopping core (setting_of old.setting) round (state_of old) (fault_of core fault) (fault_is after store fault asks)
-          (λ last fits. neither last (ap (λ j. all_fit_below round fault.processor j (tree_of old.tree) 0 round) (joints_up_to core (setting_of old.setting) round (state_of old) after store (Some fault) asks many fault.processor last) ∙ fits)) in
+      (λ last fits. neither last (ap (λ j. all_fit_below round fault.processor j (tree_of old.tree) 0 round) (joints_up_to core (setting_of old.setting) round (state_of old) after store (Some fault) asks many fault.processor last) ∙ fits)) in
       record { impossible = both.0; going_on = both.1 tells }

@@ -17,7 +17,7 @@ use Rattle.fk_replay_text.specs.Rounds.{schedule_of}
 use Rattle.fk_replay.specs.declared.end.End.{End}
 use Rattle.fk_replay.specs.declared.end.End.TheVariants.{Running, Finished, Faulted}
 use Rattle.fk_replay.specs.declared.end.Replayed.{Replayed}
-use Rattle.fk_replay.specs.Answers.{IsNotPossible, IsPassedOver}
+use Rattle.fk_replay_schedules.specs.Answers.{IsNotPossible, IsPassedOver}
 use Rattle.fk_replay_phases.specs.Safe.{AreSafe}
 
 abbrev pub stand_in : End → SourceStand

@@ -1,5 +1,14 @@
 //! Who could act.
 
+ghost use Rattle.std.specs.Prelude.{◌≡◌, ◌^◌, ◌<◌, None, length, replicate};
+ghost use Rattle.fk_tree.specs.View.{processors};
+ghost use Rattle.fk_meaning_state.specs.View.{setting_of};
+ghost use Rattle.fk_replay_phases.specs.Present.{numbers_of};
+ghost use Rattle.fk_replay.specs.Steady.{IsSteady};
+ghost use Rattle.fk_replay.specs.Taken.{IsRun, state_of};
+ghost use Rattle.fk_replay.specs.Passed.{HasTold, KnowsAbout};
+ghost use Rattle.fk_replay.specs.Arrivals.{NoneArrived};
+
 use crate::run::{Arrived, Run};
 use fk_core::CoreOp;
 use fk_meaning_operation::Joint;
@@ -40,8 +49,27 @@ fn one_more(joint: Joint, arrived: &mut Arrived) -> u32 {
 }
 
 impl Run {
+    /// Tells who could act at first.
+    pub(crate) fn begin(&mut self, ops: &[CoreOp])
+        requires few { length ops.now < 2 ^ 32 }
+        requires run { IsRun self.old }
+        requires steady { IsSteady ops.now (setting_of self.old.setting) (state_of self.old) }
+        requires pace { self.old.pace ≡ replicate (processors self.old.tree) None }
+        requires arrived { NoneArrived self.old.arrived.items }
+        ensures { HasTold ops.now 1 self.old self.new }
+    {
+        for number in 0..self.setting.processors {
+            self.arrive(ops, number, 1);
+        }
+    }
+
     /// Tells who could act after a round, from the next one on.
-    pub(crate) fn tell(&mut self, ops: &[CoreOp], next: u32) {
+    pub(crate) fn tell(&mut self, ops: &[CoreOp], next: u32)
+        requires few { length ops.now < 2 ^ 32 }
+        requires run { IsRun self.old }
+        requires knows { KnowsAbout ops.now self.old (numbers_of self.old.acting.items) }
+        ensures { HasTold ops.now next self.old self.new }
+    {
         for at in 0..self.acting.len() {
             let number = self.acting[at].number;
             self.arrive(ops, number, next);

@@ -7,7 +7,6 @@
 mod able;
 mod end;
 mod enlist;
-pub mod laws;
 mod replay;
 mod rounds;
 mod run;

@@ -1,34 +1,65 @@
 //! The run under the schedule of a trace.
 
-ghost use Rattle.std.specs.Prelude.{◌+◌, ◌^◌, ◌<◌, ◌≤◌, length};
+ghost use Rattle.std.specs.Prelude.{◌≡◌, ◌+◌, ◌^◌, ◌<◌, ◌≤◌, false, [], map, length, OnOk, IfOk, IfErr};
+ghost use Rattle.std.specs.Prelude.{None};
+ghost use Rattle.fk_tree.specs.View.{tree_of, processors};
+ghost use Rattle.fk_meaning_state.specs.View.{setting_of};
+ghost use Rattle.fk_meaning.specs.Round.{Round};
+ghost use Rattle.fk_replay_text.specs.View.{range_of, moment_of};
+ghost use Rattle.fk_replay_text.specs.Rounds.{round_of};
+ghost use Rattle.fk_replay_schedules.specs.Paced.{Leaves};
+ghost use Rattle.fk_replay_schedules.specs.Moments.{AreMoments};
+ghost use Rattle.fk_replay_steps.specs.Pace.{IsLeastLate, since};
+ghost use Rattle.fk_replay_phases.specs.Present.{present, numbers_of};
+ghost use Rattle.fk_replay.specs.Ranges.{AreRanges};
+ghost use Rattle.fk_replay.specs.Steady.{IsSteady};
+ghost use Rattle.fk_replay.specs.Taken.{IsRun, state_of};
+ghost use Rattle.fk_replay.specs.Passed.{TellsLate, AreOnTime, TellsFirstLate, KnowsAbout};
+ghost use Rattle.fk_replay.specs.Passed.{HasPassed, IsRefused};
+ghost use Rattle.fk_replay.specs.Followed.{AreSteady, HasDone, HasFollowed, IsUnlawful};
 ghost use Rattle.fk_replay.specs.Replay.{IsOfText, IsOrderly, IsSafe, IsAnswer, schedule_in};
 
-use crate::end::{End, Replayed};
+use crate::end::Replayed;
 use crate::rounds::Outcome;
 use crate::run::Run;
 use fk_core::CoreOp;
+use fk_replay_phases::{Acting, Fault};
+use fk_replay_steps::Pace;
 use fk_replay_text::{Acts, ReplayFault, Trace};
 use std::alloc::{AllocError, Global};
 
+/// A round that is late for nobody.
+fn on_time(pace: &Pace, round: u32) -> Result<(), ReplayFault>
+    ensures on_time { OnOk result (IsLeastLate pace.now round None) }
+    ensures late { IfErr result (TellsLate pace.now round) }
+{
+    match pace.late(round) {
+        Some(processor) => Err(ReplayFault::Pace(round, processor)),
+        None => Ok(()),
+    }
+}
+
 /// The rounds behind a round, up to a last one, in which nobody acts.
-fn pass_empty(run: &Run, behind: u32, last: u32) -> Result<(), ReplayFault> {
-    if behind >= last {
+fn pass_empty(pace: &Pace, behind: u32, last: u32) -> Result<(), ReplayFault>
+    ensures on_time { OnOk result (AreOnTime pace.now behind last) }
+    ensures late { IfErr result (TellsFirstLate pace.now behind last) }
+{
+    if pace.is_idle() {
         return Ok(());
     }
-    for round in behind + 1..=last {
-        if run.pace.is_idle() {
-            return Ok(());
-        }
-        on_time(run, round)?;
+    for passed in behind..last {
+        on_time(pace, passed + 1)?;
     }
     Ok(())
 }
 
-/// A round that is late for nobody.
-fn on_time(run: &Run, round: u32) -> Result<(), ReplayFault> {
-    match run.pace.late(round) {
-        Some(processor) => Err(ReplayFault::Pace(round, processor)),
-        None => Ok(()),
+/// Those who are in a round are no longer absent.
+fn leave(acting: &[Acting], pace: &mut Pace)
+    ensures { (round : Round) → numbers_of acting.now ≡ present 0 round
+        → Leaves round (since pace.old) (since pace.new) }
+{
+    for member in acting {
+        pace.end(member.number);
     }
 }
 
@@ -39,24 +70,68 @@ fn pass_round(
     round: u32,
     acts: &[Acts],
     is_last: bool,
-) -> Result<Option<End>, ReplayFault> {
-    let outcome = run.take_round(ops, acts)?;
-    let end = match outcome {
+) -> Result<Option<Fault>, ReplayFault>
+    requires few { length ops.now < 2 ^ 32 }
+    requires run { IsRun run.old }
+    requires ranges { AreRanges (processors run.old.tree) (map range_of acts.now) }
+    requires steady { IsSteady ops.now (setting_of run.old.setting) (state_of run.old) }
+    requires given { (tree_of run.old.tree).given + 2 ^ 28 ≤ 2 ^ 63 }
+    requires knows { KnowsAbout ops.now run.old [] }
+    requires round { is_last ≡ false → round + 1 < 2 ^ 32 }
+    ensures passed { IfOk result (HasPassed ops.now
+        (round_of (processors run.old.tree) (map range_of acts.now)) round is_last
+        run.old run.new) }
+    ensures refused { IfErr result (IsRefused ops.now
+        (round_of (processors run.old.tree) (map range_of acts.now)) round is_last run.old) }
+{
+    let fault = match run.take_round(ops, acts)? {
         Outcome::NotPossible => return Err(ReplayFault::NotPossible(round)),
-        Outcome::Stopped(_) if !is_last => return Err(ReplayFault::NotPossible(round)),
-        Outcome::Stopped(fault) => Some(End::Faulted(fault.site, fault.processor)),
+        Outcome::Stopped(fault) if is_last => Some(fault),
+        Outcome::Stopped(_) => return Err(ReplayFault::NotPossible(round)),
         Outcome::Possible => None,
     };
-    for acting in &run.acting {
-        run.pace.end(acting.number);
+    leave(&run.acting, &mut run.pace);
+    on_time(&run.pace, round)?;
+    if !is_last {
+        run.tell(ops, round + 1);
     }
-    on_time(run, round)?;
-    run.tell(ops, round.wrapping_add(1));
-    Ok(end)
+    Ok(fault)
+}
+
+/// All rounds of a trace. It gives the fault of the last round if that is stopped.
+fn follow(run: &mut Run, ops: &[CoreOp], trace: &Trace) -> Result<Option<Fault>, ReplayFault>
+    requires few { length ops.now < 2 ^ 32 }
+    requires moments { AreMoments trace.now.harts trace.now.cycles 0
+        (map moment_of trace.now.moments.items) }
+    requires harts { processors run.old.tree ≡ trace.now.harts }
+    requires steady { AreSteady ops.now (setting_of run.old.setting) (schedule_in trace.now)
+        (state_of run.old) }
+    requires first { HasDone ops.now (setting_of run.old.setting) (schedule_in trace.now)
+        (state_of run.old) 0 run.old }
+    ensures followed { IfOk result (HasFollowed ops.now (setting_of run.old.setting)
+        (schedule_in trace.now) (state_of run.old) run.new) }
+    ensures unlawful { IfErr result (IsUnlawful ops.now (setting_of run.old.setting)
+        (schedule_in trace.now) (state_of run.old)) }
+{
+    let mut behind = 0;
+    for moment in &trace.moments {
+        pass_empty(&run.pace, behind, moment.cycle - 1)?;
+        behind = moment.cycle;
+        let is_last = behind == trace.cycles;
+        if let Some(fault) = pass_round(run, ops, behind, &moment.acts, is_last)? {
+            return Ok(Some(fault));
+        }
+    }
+    if behind < trace.cycles {
+        pass_empty(&run.pace, behind, trace.cycles)?;
+    }
+    Ok(None)
 }
 
 /// The bytes of a text.
-fn copied(alloc: Global, bytes: &[u8]) -> Result<Vec<u8>, AllocError> {
+fn copied(alloc: Global, bytes: &[u8]) -> Result<Vec<u8>, AllocError>
+    ensures { IfOk result (λ v. v.items ≡ bytes.now) }
+{
     bytes.iter().copied().collect(alloc)
 }
 
@@ -86,22 +161,11 @@ pub fn replay_list(
         (schedule_in trace.now) result }
 {
     let mut run = Run::opening(alloc, main, words, firsts, input, trace.harts)?;
-    for number in 0..trace.harts {
-        run.arrive(ops, number, 1);
-    }
-    let mut round = 0;
-    let mut fault = None;
-    for moment in &trace.moments {
-        pass_empty(&run, round, moment.cycle.wrapping_sub(1))?;
-        round = moment.cycle;
-        fault = pass_round(&mut run, ops, round, &moment.acts, round == trace.cycles)?;
-    }
-    pass_empty(&run, round, trace.cycles)?;
+    run.begin(ops);
+    let fault = follow(&mut run, ops, trace)?;
     let output = copied(alloc, run.store.output())?;
-    let end = match fault {
-        Some(end) => end,
-        None if run.is_done(ops) => End::Finished,
-        None => End::Running,
-    };
-    Ok(Replayed { output, end })
+    Ok(Replayed {
+        output,
+        end: run.end(ops, fault),
+    })
 }

@@ -13,7 +13,7 @@ use Rattle.fk_replay_text.specs.Trace.{Told, moments_of}
 use Rattle.fk_replay_text.specs.declared.fault.ReplayFault.{ReplayFault}
 use Rattle.fk_replay_text.specs.declared.fault.ReplayFault.TheVariants.{BadTrace, NotPossible, Pace, Memory}
 use Rattle.fk_replay.specs.declared.end.Replayed.{Replayed}
-use Rattle.fk_replay.proofs.Lawful.{no_fault}
+use Rattle.fk_replay_schedules.proofs.Lawful.{no_fault}
 use Rattle.fk_sim_rounds.specs.Follows.{StandsAgree}
 use Rattle.fk_compile.specs.Faithful.{firsts_by, words_by}
 use Rattle.fk_trace_laws.specs.Program.{first, next_of, setting}

@@ -6,7 +6,7 @@ use Rattle.fk_meaning.specs.Round.{Step, State, Round, IsStopped, is_possible}
 use Rattle.fk_meaning.specs.Schedule.{Schedule, CouldAct, run}
 use Rattle.fk_core.proofs.KeepsRuns.{flat_lists_keep_runs}
 use Rattle.fk_replay_text.specs.declared.fault.ReplayFault.TheVariants.{BadTrace, NotPossible, Pace, Memory}
-use Rattle.fk_replay.specs.Answers.{IsBad, IsGoodBehind, IsLate, IsNotPossible, IsPassedOver}
+use Rattle.fk_replay_schedules.specs.Answers.{IsBad, IsGoodBehind, IsLate, IsNotPossible, IsPassedOver}
 use Rattle.fk_replay_source.specs.Alike.{AllowAlike}
 use Rattle.fk_replay_source.specs.Laws.{AnswersAreCarried}
 use Rattle.fk_replay_source.proofs.Forms.{lists_allow_the_same}

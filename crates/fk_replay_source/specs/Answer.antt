@@ -11,7 +11,7 @@ use Rattle.fk_replay_text.specs.declared.fault.ReplayFault.{ReplayFault}
 use Rattle.fk_replay_text.specs.declared.fault.ReplayFault.TheVariants.{BadTrace, NotPossible, Pace}
 use Rattle.fk_replay_text.specs.declared.fault.ReplayFault.TheVariants.{Memory}
 use Rattle.fk_replay.specs.declared.end.Replayed.{Replayed}
-use Rattle.fk_replay.specs.Answers.{IsNotPossible, IsPassedOver}
+use Rattle.fk_replay_schedules.specs.Answers.{IsNotPossible, IsPassedOver}
 use Rattle.fk_replay.specs.Replay.{stand_in}
 use Rattle.fk_compile.specs.Faithful.{firsts_by, in_image, words_by}
 use Rattle.fk_trace_laws.specs.Program.{first, next_of, setting}

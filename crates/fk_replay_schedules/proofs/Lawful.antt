@@ -1,11 +1,11 @@
 -- The schedules that are lawful are those without a bad and without a late round.
-use Rattle.std.proofs.Common.{◌≡◌, ℕ, zero, suc, ◌+◌, ◌<◌, ◌≤◌, Bool, true, ◌⊎◌, inl, inr, List, [], ◌∷◌, Option, Some, None, length, take, refl, sym, ap, ◌∙◌, subst, arith}
+use Rattle.std.proofs.Common.{◌≡◌, ℕ, zero, suc, ◌+◌, ◌<◌, true, ◌⊎◌, inl, inr, [], ◌∷◌, Option, Some, None, refl, sym, ap, ◌∙◌, subst, arith}
 use Rattle.std.specs.Prelude.{slice_get, slice_index}
 use Rattle.fk_meaning.specs.Processor.{Setting}
 use Rattle.fk_meaning.specs.Round.{Step, State, Round, result, is_possible, IsStopped}
-use Rattle.fk_meaning.specs.Schedule.{Schedule, ArePossible, CouldAct, IsIn, IsLawful, KeepsPace, run}
-use Rattle.fk_replay.specs.Answers.{after, IsBad, IsGoodBehind, IsLate}
-use Rattle.fk_replay.specs.Laws.{GoodSchedulesAreLawful, HasNoFault, LawfulSchedulesHaveNoFault}
+use Rattle.fk_meaning.specs.Schedule.{Schedule, ArePossible, IsIn, IsLawful, KeepsPace}
+use Rattle.fk_replay_schedules.specs.Answers.{IsGoodBehind, IsLate}
+use Rattle.fk_replay_schedules.specs.Laws.{HasNoFault}
 
 module _ {W : Type 0} (next : W → Option (Step W)) (setting : Setting) where
   abbrev Good : Schedule → State W → Type 0

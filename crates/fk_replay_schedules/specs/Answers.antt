@@ -1,5 +1,5 @@
 -- Where a schedule isn't lawful. Rounds are counted from 1.
-use Rattle.std.specs.Prelude.{◌≡◌, ◌⊎◌, ℕ, suc, ◌+◌, ◌<◌, ◌≤◌, Bool, true, List, [], take, length}
+use Rattle.std.specs.Prelude.{◌≡◌, ◌⊎◌, ℕ, suc, ◌+◌, ◌<◌, ◌≤◌, true, take, length}
 use Rattle.std.specs.Prelude.{slice_get, Option, Some}
 use Rattle.fk_meaning.specs.Processor.{Setting}
 use Rattle.fk_meaning.specs.Round.{Step, State, Round, is_possible, IsStopped}

@@ -1,0 +1,6 @@
+-- who could act
+pub mod Able
+-- what a round leaves
+pub mod Rounds
+-- who could act after a round
+pub mod Behind
