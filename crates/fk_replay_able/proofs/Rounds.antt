@@ -4,6 +4,7 @@ use Rattle.std.specs.Prelude.{slice_index}
 use Rattle.std.specs.List.{list_all}
 use Rattle.std.proofs.lemmas.Bool.{and_parts, and_from, eqb-true, eq-eqb}
 use Rattle.std.proofs.lemmas.List.{length-map}
+use Rattle.fk_meaning_operation.specs.Kinds.{joint_of}
 use Rattle.fk_meaning_operation.specs.declared.operation.Operation.{Operation}
 use Rattle.fk_meaning_operation.specs.declared.kinds.Joint.{Joint}
 use Rattle.fk_meaning_operation.specs.declared.kinds.Joint.TheVariants.{Alone, Starting, AtBarrier, Closing, Resuming}
@@ -17,13 +18,14 @@ use Rattle.fk_meaning_store.specs.Store.{Store}
 use Rattle.fk_meaning.specs.Processor.{Setting}
 use Rattle.fk_meaning.specs.Round.{Step, Runner, State, Round, Acting, Phases, Fault, taking, joint_due, joint_at, same_joint, body_of, all_do, joins, fits_kind, fits, all_fit, local_phase, begin, begin_all, asking, all_requests, all_changes, settled, settled_by, tree_phase, who, all_may_act, is_allowed, is_possible, result}
 use Rattle.fk_meaning.proofs.Stopped.{phase_fault}
-use Rattle.fk_lockstep.proofs.Round.{all_at, some_at, at_below, first_is, index_at, requests_length, counts_there, begin_length}
+use Rattle.fk_lockstep.proofs.Round.{all_at, some_at, at_below, first_is, index_at, joint_is, requests_length, counts_there, begin_length}
 use Rattle.fk_lockstep.proofs.Rounds.{begin_at, map_at, settled_at, asked_at}
 use Rattle.fk_lockstep_nodes.specs.Steps.{KeepsOrDoes, StepsBy, MayStep, NodesStep, tree_by, stepping}
 use Rattle.fk_lockstep_nodes.proofs.Nodes.{rounds_step_nodes}
 use Rattle.fk_lockstep_tree.specs.Steps.{AreKnown}
 use Rattle.fk_lockstep_tree.specs.Runs.{StandsInTree}
 use Rattle.fk_replay_counts.specs.Steady.{IsSteadyInTree}
+use Rattle.fk_replay_rounds.proofs.Joints.{taken_stay}
 use Rattle.fk_replay_able.specs.Able.{waits_for_none, step_of, step_at, joint_before, AreMet, IsAble}
 use Rattle.fk_replay_able.proofs.Able.{untrue, same_is, ActsAt, acts_at, fits_at, fits_some, alone_free, within}
 
@@ -139,10 +141,13 @@ module _ {W X : Type 0} (next : W → Option (Step W)) (place : W → X) (set : 
       by None steps = refl
       by (Some operation) steps = absurd steps
 
-  pub place_stays : (h : ℕ) → h < set.processors → slice_index round h ≡ 0 → behind.tree.places h ≡ s.tree.places h
-  place_stays h lt absent =
+  pub place_kept : (h : ℕ) → known.does (s.tree.places h) ≡ None → behind.tree.places h ≡ s.tree.places h
+  place_kept h none =
       let g = s.tree.places h in
-      nodes.places h ∙ ap (λ (d : Option Operation). (tree_by s.tree (who (stepping next set round s)) (nodes.first g) g d).places h) (none_steps h lt absent)
+      nodes.places h ∙ ap (λ (d : Option Operation). (tree_by s.tree (who (stepping next set round s)) (nodes.first g) g d).places h) none
+
+  pub place_stays : (h : ℕ) → h < set.processors → slice_index round h ≡ 0 → behind.tree.places h ≡ s.tree.places h
+  place_stays h lt absent = place_kept h (none_steps h lt absent)
 
   -- a node at which nobody steps
   pub node_stays : (n : ℕ) → n < s.tree.given → known.does n ≡ None → behind.tree.nodes n ≡ s.tree.nodes n
@@ -162,6 +167,22 @@ module _ {W X : Type 0} (next : W → Option (Step W)) (place : W → X) (set : 
       by : (d : Option Operation) → known.does n ≡ d → known.does n ≡ None
       by None e = e
       by (Some operation) e = absurd (all_present n m operation e has absent)
+
+  -- the joint operation that is due at a node that steps
+  pub joint_steps : (n m : ℕ) (operation : Operation) → known.does n ≡ Some operation → Has s.tree n m → taken m ≡ joint_of operation
+  joint_steps n m operation e has =
+      let lt = sound.within n m has in
+      let a = some_at actings m (omega (arith, lt, many)) in
+      let zero_more : 0 + m ≡ m = omega arith in
+      let at = (known.may n operation e).stand m has in
+      let does : KeepsOrDoes (known.does (s.tree.places m)) a.0.due
+      = subst (λ (k : ℕ). KeepsOrDoes (known.does (s.tree.places k)) a.0.due) zero_more (step_by s.tree known.does 0 actings m a.0 known.steps a.1) in
+      sym (taken_stay W next set round s m) ∙ joint_is actings m a.0 a.1
+      ∙ by a.0.due (subst (λ (d : Option Operation). KeepsOrDoes d a.0.due) (ap known.does at ∙ e) does)
+    where
+      by : (due : Option (Step W)) → KeepsOrDoes (Some operation) due → joint_due due ≡ joint_of operation
+      by None steps = absurd steps
+      by (Some step) steps = ap joint_of steps
 
   -- what has ended stays so
   pub ended_stays : (n : ℕ) → n < s.tree.given → s.tree.nodes n ≡ None → behind.tree.nodes n ≡ None
