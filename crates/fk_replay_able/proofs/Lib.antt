@@ -8,3 +8,5 @@ pub mod Behind
 pub mod Numbers
 -- what is known after a round
 pub mod Counted
+-- what becomes known when one comes
+pub mod Arrivals

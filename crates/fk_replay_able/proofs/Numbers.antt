@@ -48,7 +48,7 @@ same_number f g (m ∷ ms) each =
     let rest = same_number f g ms (λ i is. each i (later_member m i ms is)) in
     omega (arith, here, rest)
 
-at_most : (f : ℕ → Bool) (ms : List ℕ) → number_of f ms ≤ length ms
+pub at_most : (f : ℕ → Bool) (ms : List ℕ) → number_of f ms ≤ length ms
 at_most f [] = omega arith
 at_most f (m ∷ ms) = let rest = at_most f ms in by (f m) rest
   where
