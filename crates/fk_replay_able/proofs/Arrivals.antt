@@ -370,7 +370,7 @@ module _ {W X : Type 0} (next : W → Option (Step W)) (place : W → X) (set : 
 
       one_counted : (g : ℕ) (joint : Joint) → IsCounter next s g joint
           → arrived' g joint + number_of (is_coming next s coming joint) (t.members s.tree (s.tree.places g)) ≡ number_of (is_before next s joint) (t.members s.tree (s.tree.places g))
-      one_counted g joint c = ⊎_elim (λ x. mine x) (λ no. counts_same arrived' g joint c (λ has. apart no has (is_before next s joint h) refl) (counts.same g joint no)) (decide_low g joint)
+      one_counted g joint c = ⊎_elim (λ x. mine x) (λ apart_is. counts_same arrived' g joint c (λ has. apart apart_is has (is_before next s joint h) refl) (counts.same g joint apart_is)) (decide_low g joint)
         where
           mine : (g ≡ lowest ms) × (joint ≡ j)
               → arrived' g joint + number_of (is_coming next s coming joint) (t.members s.tree (s.tree.places g)) ≡ number_of (is_before next s joint) (t.members s.tree (s.tree.places g))
@@ -380,15 +380,15 @@ module _ {W X : Type 0} (next : W → Option (Step W)) (place : W → X) (set : 
               (subst (λ (i : ℕ). arrived' (lowest ms) j + number_of (is_coming next s coming j) (t.members s.tree i) ≡ number_of (is_before next s j) (t.members s.tree i)) (sym low_at) at_low)
 
           apart : ((g ≡ lowest ms) × (joint ≡ j) → ⊥) → Has s.tree (s.tree.places g) h → (b : Bool) → is_before next s joint h ≡ b → is_before next s joint h ≡ false
-          apart no has false e = e
-          apart no has true e =
+          apart apart_is has false e = e
+          apart apart_is has true e =
               let at = stands_at g joint c has in
-              absurd (no (c.lowest ∙ ap (λ (i : ℕ). lowest (t.members s.tree i)) (sym at), sym (same_is joint j e)))
+              absurd (apart_is (c.lowest ∙ ap (λ (i : ℕ). lowest (t.members s.tree i)) (sym at), sym (same_is joint j e)))
 
       one_other : (g : ℕ) (joint : Joint) → (IsCounter next s g joint → ⊥) → arrived' g joint ≡ 0
       one_other g joint none =
           ⊎_elim (λ x. absurd (none (subst₂ (λ (i : ℕ) (k : Joint). IsCounter next s i k) (sym x.0) (sym x.1) counter_low)))
-          (λ no. counts.same g joint no ∙ knows.others g joint none) (decide_low g joint)
+          (λ apart_is. counts.same g joint apart_is ∙ knows.others g joint none) (decide_low g joint)
 
       last : arrived' (lowest ms) j ≡ length ms → KnowsAble next s coming (with_all ms able) arrived'
       last full = all_known arrived' (record { ready = λ e. absurd (other e); stand = all_stand; before = before }) waits one_counted one_other

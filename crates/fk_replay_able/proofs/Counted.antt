@@ -131,7 +131,7 @@ module _ {W X : Type 0} (next : W → Option (Step W)) (place : W → X) (set : 
   own_steps n false o.Begin kind fit = refl
   own_steps n true (o.Meet true) kind fit = refl
   own_steps n false (o.Meet true) kind fit = refl
-  own_steps n alone o.Resume kind fit = absurd (let bad = fit.2.1 in cc)
+  own_steps n alone o.Resume kind fit = absurd (let bad = fit.2 in cc)
   own_steps n alone (o.Split by) kind fit = absurd (cc)
   own_steps n alone o.Shrink kind fit = absurd (let bad = fit.0 in cc)
   own_steps n alone o.Farm kind fit = absurd (cc)

@@ -65,14 +65,14 @@ all_have f (m ∷ ms) each =
 
 pub each_has : (f : ℕ → Bool) (ms : List ℕ) → number_of f ms ≡ length ms → (m : ℕ) → is_member m ms ≡ true → f m ≡ true
 each_has f [] e m is = untrue is
-each_has f (x ∷ ms) e m is = by (f x) refl (either_member x m ms is)
+each_has f (x ∷ ms) e m is = by (f x) refl (either_member x m ms is) (λ rest later. each_has f ms rest m later)
   where
-    by : (b : Bool) → f x ≡ b → (m ≡ x) ⊎ (is_member m ms ≡ true) → f m ≡ true
-    by true has (inl same) = ap f same ∙ has
-    by true has (inr later) =
+    by : (b : Bool) → f x ≡ b → (m ≡ x) ⊎ (is_member m ms ≡ true) → (number_of f ms ≡ length ms → is_member m ms ≡ true → f m ≡ true) → f m ≡ true
+    by true has (inl same) more = ap f same ∙ has
+    by true has (inr later) more =
         let here : one_if (f x) ≡ 1 = ap one_if has in
-        each_has f ms (omega (arith, here, e)) m later
-    by false has there =
+        more (omega (arith, here, e)) later
+    by false has there more =
         let here : one_if (f x) ≡ 0 = ap one_if has in
         let most = at_most f ms in
         absurd (omega (arith, here, e, most))
@@ -80,20 +80,20 @@ each_has f (x ∷ ms) e m is = by (f x) refl (either_member x m ms is)
 -- if the number isn't 0, somebody has it
 pub some_has : (f : ℕ → Bool) (ms : List ℕ) → number_of f ms ≢ 0 → (m : ℕ) × (is_member m ms ≡ true) × (f m ≡ true)
 some_has f [] ne = absurd (ne refl)
-some_has f (x ∷ ms) ne = by (f x) refl
+some_has f (x ∷ ms) ne = by (f x) refl (λ rest. some_has f ms rest)
   where
-    by : (b : Bool) → f x ≡ b → (m : ℕ) × (is_member m (x ∷ ms) ≡ true) × (f m ≡ true)
-    by true has = (x, first_member x ms, has)
-    by false has =
+    by : (b : Bool) → f x ≡ b → (number_of f ms ≢ 0 → (m : ℕ) × (is_member m ms ≡ true) × (f m ≡ true)) → (m : ℕ) × (is_member m (x ∷ ms) ≡ true) × (f m ≡ true)
+    by true has later = (x, first_member x ms, has)
+    by false has later =
         let here : one_if (f x) ≡ 0 = ap one_if has in
-        let more = some_has f ms (λ none. ne (omega (arith, here, none))) in
+        let more = later (λ none. ne (omega (arith, here, none))) in
         (more.0, later_member x more.0 ms more.1, more.2)
 
 -- if one of them loses it, there is one less
 pub one_less : (f g : ℕ → Bool) (h : ℕ) (ms : List ℕ) → is_ascending ms ≡ true → is_member h ms ≡ true → f h ≡ false → g h ≡ true
     → ((m : ℕ) → m ≢ h → f m ≡ g m) → suc (number_of f ms) ≡ number_of g ms
 one_less f g h [] up is off on others = untrue is
-one_less f g h (x ∷ ms) up is off on others = by (either_member x h ms is)
+one_less f g h (x ∷ ms) up is off on others = by (either_member x h ms is) (λ rises later. one_less f g h ms rises later off on others)
   where
     parts : (is_below_all x ms ≡ true) × (is_ascending ms ≡ true)
     parts = and_parts (is_below_all x ms) (is_ascending ms) up
@@ -101,14 +101,15 @@ one_less f g h (x ∷ ms) up is off on others = by (either_member x h ms is)
     above : (m : ℕ) → is_member m ms ≡ true → x < m
     above m later = below_all-member x ms m parts.0 later
 
-    by : (h ≡ x) ⊎ (is_member h ms ≡ true) → suc (number_of f (x ∷ ms)) ≡ number_of g (x ∷ ms)
-    by (inl same) =
+    by : (h ≡ x) ⊎ (is_member h ms ≡ true) → (is_ascending ms ≡ true → is_member h ms ≡ true → suc (number_of f ms) ≡ number_of g ms)
+        → suc (number_of f (x ∷ ms)) ≡ number_of g (x ∷ ms)
+    by (inl same) more =
         let lost : one_if (f x) ≡ 0 = ap one_if (ap f (sym same) ∙ off) in
         let had : one_if (g x) ≡ 1 = ap one_if (ap g (sym same) ∙ on) in
         let rest = same_number f g ms (λ m later. others m (λ e. let lt = above m later in omega (arith, lt, e, same))) in
         omega (arith, lost, had, rest)
-    by (inr later) =
+    by (inr later) more =
         let lt = above h later in
         let here : one_if (f x) ≡ one_if (g x) = ap one_if (others x (λ e. omega (arith, lt, e))) in
-        let rest = one_less f g h ms parts.1 later off on others in
+        let rest = more parts.1 later in
         omega (arith, here, rest)

@@ -50,7 +50,7 @@ none_or_some : {A : Type 0} (x : Option A) → (x ≡ None) ⊎ (x ≢ None)
 none_or_some None = inl refl
 none_or_some (Some a) = inr (λ e. cc)
 
-zero_or_more : (c : ℕ) → (c ≡ 0) ⊎ (0 < c)
+pub zero_or_more : (c : ℕ) → (c ≡ 0) ⊎ (0 < c)
 zero_or_more zero = inl refl
 zero_or_more (suc c) = inr (omega arith)
 
