@@ -42,6 +42,9 @@ step_by tree does number (b ∷ actings) (suc i) a steps at =
     let same : suc number + i ≡ number + suc i = omega arith in
     subst (λ (k : ℕ). KeepsOrDoes (does (tree.places k)) a.due) same (step_by tree does (suc number) actings i a steps.2 at)
 
+same_there : {A : Type 0} (xs : List A) (h : ℕ) (x y : A) → slice_get xs h ≡ Some x → x ≡ y → slice_get xs h ≡ Some y
+same_there xs h x y at same = at ∙ ap (λ z. Some z) same
+
 none_of : {A : Type 0} (x : Option A) → is_none x ≡ true → x ≡ None
 none_of None e = refl
 none_of (Some a) e = untrue e
@@ -120,7 +123,7 @@ module _ {W X : Type 0} (next : W → Option (Step W)) (place : W → X) (set : 
       = begin_at next set round s.runners h c.0 r.0 c.1 r.1 ∙ ap (λ (k : ℕ). Some (begin next set k r.0)) none in
       let passing = asked_at 0 (asking next set round s.runners) s.store h (taking r.0 None) no_fault
       (map_at (λ (a : Acting W). local_phase next set a a.due) (begin_all next set round s.runners) h (taking r.0 None) begun) in
-      (r.0, r.1, passing.at ∙ ap (λ (a : Acting W). Some a) passing.comes)
+      (r.0, r.1, same_there actings h passing.acting (taking r.0 None) passing.at passing.comes)
 
   pub runner_stays : (h : ℕ) → h < set.processors → slice_index round h ≡ 0 → slice_get behind.runners h ≡ slice_get s.runners h
   runner_stays h lt absent =
