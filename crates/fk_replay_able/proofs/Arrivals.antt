@@ -319,7 +319,7 @@ module _ {W X : Type 0} (next : W → Option (Step W)) (place : W → X) (set : 
           own (inr met) = absurd (true≢false (sym (met.ready resume) ∙ off))
 
     -- one more is counted
-    module _ (arrived' : ℕ → Joint → ℕ) (other : j ≢ Resuming) (waits : is_free next s h ≡ false) (counts : CountsOne next s h coming able arrived arrived') where
+    module _ (other : j ≢ Resuming) (waits : is_free next s h ≡ false) where
       kind_here : (alone : Bool) × (t.kind s.tree n ≡ Some (Asynchronous alone))
       kind_here = by (t.kind s.tree n) refl
         where
@@ -349,73 +349,80 @@ module _ {W X : Type 0} (next : W → Option (Step W)) (place : W → X) (set : 
         other = other;
       }
 
-      at_low : arrived' (lowest ms) j + number_of (is_coming next s coming j) ms ≡ number_of (is_before next s j) ms
-      at_low =
+      -- with it they are no more than there are
+      one_before : suc (arrived (lowest ms) j) + number_of (is_coming next s coming j) ms ≡ number_of (is_before next s j) ms
+      one_before =
           let all = subst (λ (i : ℕ). arrived (lowest ms) j + number_of (is_coming next s (h ∷ coming) j) (t.members s.tree i) ≡ number_of (is_before next s j) (t.members s.tree i)) low_at
           (knows.counted (lowest ms) j counter_low) in
           let less = one_less (is_coming next s coming j) (is_coming next s (h ∷ coming) j) h ms (stands.sound.ascending n) here
           (ap (λ (b : Bool). b && is_before next s j h) gone)
           (ap (λ (b : Bool). b && is_before next s j h) (first_member h coming) ∙ same_self j)
           (λ m ne. coming_other j m ne) in
-          let one = counts.one in
-          omega (arith, all, less, one)
+          omega (arith, all, less)
 
-      decide_low : (g : ℕ) (joint : Joint) → ((g ≡ lowest ms) × (joint ≡ j)) ⊎ ((g ≡ lowest ms) × (joint ≡ j) → ⊥)
-      decide_low g joint = by (cases_eq g (lowest ms)) (same_joint joint j) refl
-        where
-          by : (g ≡ lowest ms) ⊎ (g ≢ lowest ms) → (b : Bool) → same_joint joint j ≡ b → ((g ≡ lowest ms) × (joint ≡ j)) ⊎ ((g ≡ lowest ms) × (joint ≡ j) → ⊥)
-          by (inr ne) b e = inr (λ x. ne x.0)
-          by (inl is) true e = inl (is, sym (same_is joint j e))
-          by (inl is) false e = inr (λ x. true≢false (sym (same_self joint) ∙ ap (same_joint joint) x.1 ∙ e))
+      few : suc (arrived (lowest ms) j) ≤ length ms
+      few = let all = one_before in let most = at_most (is_before next s j) ms in omega (arith, all, most)
 
-      one_counted : (g : ℕ) (joint : Joint) → IsCounter next s g joint
-          → arrived' g joint + number_of (is_coming next s coming joint) (t.members s.tree (s.tree.places g)) ≡ number_of (is_before next s joint) (t.members s.tree (s.tree.places g))
-      one_counted g joint c = ⊎_elim (λ x. mine x) (λ apart_is. counts_same arrived' g joint c (λ has. apart apart_is has (is_before next s joint h) refl) (counts.same g joint apart_is)) (decide_low g joint)
-        where
-          mine : (g ≡ lowest ms) × (joint ≡ j)
-              → arrived' g joint + number_of (is_coming next s coming joint) (t.members s.tree (s.tree.places g)) ≡ number_of (is_before next s joint) (t.members s.tree (s.tree.places g))
-          mine x =
-              subst₂ (λ (i : ℕ) (k : Joint). arrived' i k + number_of (is_coming next s coming k) (t.members s.tree (s.tree.places i)) ≡ number_of (is_before next s k) (t.members s.tree (s.tree.places i)))
-              (sym x.0) (sym x.1)
-              (subst (λ (i : ℕ). arrived' (lowest ms) j + number_of (is_coming next s coming j) (t.members s.tree i) ≡ number_of (is_before next s j) (t.members s.tree i)) (sym low_at) at_low)
+      module _ (arrived' : ℕ → Joint → ℕ) (counts : CountsOne next s h coming able arrived arrived') where
+        at_low : arrived' (lowest ms) j + number_of (is_coming next s coming j) ms ≡ number_of (is_before next s j) ms
+        at_low = let all = one_before in let one = counts.one in omega (arith, all, one)
 
-          apart : ((g ≡ lowest ms) × (joint ≡ j) → ⊥) → Has s.tree (s.tree.places g) h → (b : Bool) → is_before next s joint h ≡ b → is_before next s joint h ≡ false
-          apart apart_is has false e = e
-          apart apart_is has true e =
-              let at = stands_at g joint c has in
-              absurd (apart_is (c.lowest ∙ ap (λ (i : ℕ). lowest (t.members s.tree i)) (sym at), sym (same_is joint j e)))
+        decide_low : (g : ℕ) (joint : Joint) → ((g ≡ lowest ms) × (joint ≡ j)) ⊎ ((g ≡ lowest ms) × (joint ≡ j) → ⊥)
+        decide_low g joint = by (cases_eq g (lowest ms)) (same_joint joint j) refl
+          where
+            by : (g ≡ lowest ms) ⊎ (g ≢ lowest ms) → (b : Bool) → same_joint joint j ≡ b → ((g ≡ lowest ms) × (joint ≡ j)) ⊎ ((g ≡ lowest ms) × (joint ≡ j) → ⊥)
+            by (inr ne) b e = inr (λ x. ne x.0)
+            by (inl is) true e = inl (is, sym (same_is joint j e))
+            by (inl is) false e = inr (λ x. true≢false (sym (same_self joint) ∙ ap (same_joint joint) x.1 ∙ e))
 
-      one_other : (g : ℕ) (joint : Joint) → (IsCounter next s g joint → ⊥) → arrived' g joint ≡ 0
-      one_other g joint none =
-          ⊎_elim (λ x. absurd (none (subst₂ (λ (i : ℕ) (k : Joint). IsCounter next s i k) (sym x.0) (sym x.1) counter_low)))
-          (λ apart_is. counts.same g joint apart_is ∙ knows.others g joint none) (decide_low g joint)
+        one_counted : (g : ℕ) (joint : Joint) → IsCounter next s g joint
+            → arrived' g joint + number_of (is_coming next s coming joint) (t.members s.tree (s.tree.places g)) ≡ number_of (is_before next s joint) (t.members s.tree (s.tree.places g))
+        one_counted g joint c = ⊎_elim (λ x. mine x) (λ apart_is. counts_same arrived' g joint c (λ has. apart apart_is has (is_before next s joint h) refl) (counts.same g joint apart_is)) (decide_low g joint)
+          where
+            mine : (g ≡ lowest ms) × (joint ≡ j)
+                → arrived' g joint + number_of (is_coming next s coming joint) (t.members s.tree (s.tree.places g)) ≡ number_of (is_before next s joint) (t.members s.tree (s.tree.places g))
+            mine x =
+                subst₂ (λ (i : ℕ) (k : Joint). arrived' i k + number_of (is_coming next s coming k) (t.members s.tree (s.tree.places i)) ≡ number_of (is_before next s k) (t.members s.tree (s.tree.places i)))
+                (sym x.0) (sym x.1)
+                (subst (λ (i : ℕ). arrived' (lowest ms) j + number_of (is_coming next s coming j) (t.members s.tree i) ≡ number_of (is_before next s j) (t.members s.tree i)) (sym low_at) at_low)
 
-      last : arrived' (lowest ms) j ≡ length ms → KnowsAble next s coming (with_all ms able) arrived'
-      last full = all_known arrived' (record { ready = λ e. absurd (other e); stand = all_stand; before = before }) waits one_counted one_other
-        where
-          as_many : number_of (is_before next s j) ms ≡ length ms
-          as_many = let all = at_low in let most = at_most (is_before next s j) ms in omega (arith, all, most, full)
+            apart : ((g ≡ lowest ms) × (joint ≡ j) → ⊥) → Has s.tree (s.tree.places g) h → (b : Bool) → is_before next s joint h ≡ b → is_before next s joint h ≡ false
+            apart apart_is has false e = e
+            apart apart_is has true e =
+                let at = stands_at g joint c has in
+                absurd (apart_is (c.lowest ∙ ap (λ (i : ℕ). lowest (t.members s.tree i)) (sym at), sym (same_is joint j e)))
 
-          before : (m : ℕ) → Has s.tree n m → joint_before next s m ≡ j
-          before m has = same_is j (joint_before next s m) (each_has (is_before next s j) ms as_many m has)
+        one_other : (g : ℕ) (joint : Joint) → (IsCounter next s g joint → ⊥) → arrived' g joint ≡ 0
+        one_other g joint none =
+            ⊎_elim (λ x. absurd (none (subst₂ (λ (i : ℕ) (k : Joint). IsCounter next s i k) (sym x.0) (sym x.1) counter_low)))
+            (λ apart_is. counts.same g joint apart_is ∙ knows.others g joint none) (decide_low g joint)
 
-      -- somebody is still to come
-      to_come : AreMet next s n j → arrived' (lowest ms) j ≢ length ms → (m : ℕ) × (is_member m coming ≡ true) × (s.tree.places m ≡ n)
-      to_come met part =
-          let as_many = all_have (is_before next s j) ms (λ m is. ap (same_joint j) (met.before m is) ∙ same_self j) in
-          let all = at_low in
-          let x = some_has (is_coming next s coming j) ms (λ none. part (omega (arith, none, all, as_many))) in
-          (x.0, (and_parts (is_member x.0 coming) (is_before next s j x.0) x.2).0, met.stand x.0 x.1)
+        last : arrived' (lowest ms) j ≡ length ms → KnowsAble next s coming (with_all ms able) arrived'
+        last full = all_known arrived' (record { ready = λ e. absurd (other e); stand = all_stand; before = before }) waits one_counted one_other
+          where
+            as_many : number_of (is_before next s j) ms ≡ length ms
+            as_many = let all = at_low in let most = at_most (is_before next s j) ms in omega (arith, all, most, full)
 
-      still : arrived' (lowest ms) j ≢ length ms → KnowsAble next s coming able arrived'
-      still part = same_known arrived' (λ a. own a.free) (λ g m. announced g m.waits m.there m.met) one_counted one_other
-        where
-          announced : (g : ℕ) → is_free next s g ≡ false → n ≡ s.tree.places g → AreMet next s n j → (able g ≡ true) ⊎ IsAnnounced next s coming g
-          announced g off there met = let x = to_come met part in inr (record { by = x.0; comes = x.1; concerns = inr (off, x.2 ∙ there) })
+            before : (m : ℕ) → Has s.tree n m → joint_before next s m ≡ j
+            before m has = same_is j (joint_before next s m) (each_has (is_before next s j) ms as_many m has)
 
-          own : (waits_for_none (t.kind s.tree n) j ≡ true) ⊎ AreMet next s n j → (able h ≡ true) ⊎ IsAnnounced next s coming h
-          own (inl free) = absurd (true≢false (sym free ∙ waits))
-          own (inr met) = announced h waits refl met
+        -- somebody is still to come
+        to_come : AreMet next s n j → arrived' (lowest ms) j ≢ length ms → (m : ℕ) × (is_member m coming ≡ true) × (s.tree.places m ≡ n)
+        to_come met part =
+            let as_many = all_have (is_before next s j) ms (λ m is. ap (same_joint j) (met.before m is) ∙ same_self j) in
+            let all = at_low in
+            let x = some_has (is_coming next s coming j) ms (λ none. part (omega (arith, none, all, as_many))) in
+            (x.0, (and_parts (is_member x.0 coming) (is_before next s j x.0) x.2).0, met.stand x.0 x.1)
+
+        still : arrived' (lowest ms) j ≢ length ms → KnowsAble next s coming able arrived'
+        still part = same_known arrived' (λ a. own a.free) (λ g m. announced g m.waits m.there m.met) one_counted one_other
+          where
+            announced : (g : ℕ) → is_free next s g ≡ false → n ≡ s.tree.places g → AreMet next s n j → (able g ≡ true) ⊎ IsAnnounced next s coming g
+            announced g off there met = let x = to_come met part in inr (record { by = x.0; comes = x.1; concerns = inr (off, x.2 ∙ there) })
+
+            own : (waits_for_none (t.kind s.tree n) j ≡ true) ⊎ AreMet next s n j → (able h ≡ true) ⊎ IsAnnounced next s coming h
+            own (inl free) = absurd (true≢false (sym free ∙ waits))
+            own (inr met) = announced h waits refl met
 
     pub arrives : Arrives next s h coming able arrived
     arrives = record {
@@ -424,8 +431,9 @@ module _ {W X : Type 0} (next : W → Option (Step W)) (place : W → X) (set : 
       resumes = λ resume waits ready. resumes resume waits ready;
       resumed = λ resume waits e. resumed resume waits e;
       awaits = λ resume waits off. awaits resume waits off;
-      last = λ arrived' other waits counts full. last arrived' other waits counts full;
-      waits = λ arrived' other waits counts part. still arrived' other waits counts part;
+      few = λ other waits. few other waits;
+      last = λ arrived' other waits counts full. last other waits arrived' counts full;
+      waits = λ arrived' other waits counts part. still other waits arrived' counts part;
     }
 
 pub arrivals_know_able : (W X : Type 0) → ArrivalsKnowAble W X

@@ -1,5 +1,5 @@
 -- What is known of those who could act, while processors come to their next operations.
-use Rattle.std.specs.Prelude.{◌≡◌, ◌≢◌, ℕ, suc, ◌+◌, ◌<◌, ◌==◌, Bool, true, false, ◌&&◌, ◌||◌, List}
+use Rattle.std.specs.Prelude.{◌≡◌, ◌≢◌, ℕ, suc, ◌+◌, ◌<◌, ◌≤◌, ◌==◌, Bool, true, false, ◌&&◌, ◌||◌, List}
 use Rattle.std.specs.Prelude.{[], ◌∷◌, length, Option, Some, is_some, ◌⊎◌, slice_index}
 use Rattle.std.specs.Prelude.{if◌then◌else◌}
 use Rattle.fk_tree.specs.declared.node.Kind.TheVariants.{Asynchronous}
@@ -147,6 +147,8 @@ module _ {W : Type 0} (next : W → Option (Step W)) (s : State W) (h : ℕ) (co
         → KnowsAble next s coming able arrived
     pub awaits : joint_before next s h ≡ Resuming → is_free next s h ≡ false
         → t.ready s.tree (s.tree.places h) ≡ false → KnowsAble next s coming able arrived
+    pub few : joint_before next s h ≢ Resuming → is_free next s h ≡ false
+        → suc (arrived (lowest members_there) (joint_before next s h)) ≤ length members_there
     pub last : (arrived' : ℕ → Joint → ℕ) → joint_before next s h ≢ Resuming
         → is_free next s h ≡ false → CountsOne arrived'
         → arrived' (lowest members_there) (joint_before next s h) ≡ length members_there

@@ -47,6 +47,11 @@ abbrev pub HasNumber : Joint → (number : ℕ) → (old new : Arrived) → Type
 HasNumber joint number old new =
     (j : Joint) → number_in j new ≡ (if same_joint j joint then number else number_in j old)
 
+-- one more is before an operation of a joint kind
+pub record HasOneMore (joint : Joint) (number : ℕ) (old new : Arrived) : Type 0 where
+  pub number_is : number ≡ suc (number_in joint old)
+  pub one : HasNumber joint number old new
+
 abbrev pub joint_taken : Option Due → Joint
 joint_taken None = Alone
 joint_taken (Some due) = joint_of due.operation

@@ -1,9 +1,9 @@
 //! How many members of nodes have come to joint operations.
 
-ghost use Rattle.std.specs.Prelude.{◌≡◌, suc, true, ◌+◌, ◌^◌, ◌<◌, length};
+ghost use Rattle.std.specs.Prelude.{◌≡◌, true, ◌+◌, ◌^◌, ◌<◌, length};
 ghost use Rattle.fk_replay_phases.specs.Present.{numbers_of, AreBelow};
-ghost use Rattle.fk_replay_arrivals.specs.Arrived.{number_in, is_counted, HasNumber, joint_taken};
-ghost use Rattle.fk_replay_arrivals.specs.Arrived.{HaveForgotten};
+ghost use Rattle.fk_replay_arrivals.specs.Arrived.{number_in, is_counted, HasNumber, HasOneMore};
+ghost use Rattle.fk_replay_arrivals.specs.Arrived.{HaveForgotten, joint_taken};
 
 use fk_meaning_operation::Joint;
 use fk_replay_phases::{Acting, Actor, joint_of};
@@ -31,17 +31,15 @@ fn forget(joint: Joint, arrived: &mut Arrived)
 
 /// One more is before a joint operation. It gives their number.
 pub(crate) fn one_more(joint: Joint, arrived: &mut Arrived) -> u32
-    requires counted { is_counted joint ≡ true }
-    requires few { number_in joint arrived.old + 1 < 2 ^ 32 }
-    ensures number { result ≡ suc (number_in joint arrived.old) }
-    ensures one { HasNumber joint result arrived.old arrived.new }
+    ensures { is_counted joint ≡ true → number_in joint arrived.old + 1 < 2 ^ 32
+        → HasOneMore joint result arrived.old arrived.new }
 {
     let number = match joint {
         Joint::Starting => &mut arrived.starting,
         Joint::AtBarrier => &mut arrived.at_barrier,
         _ => &mut arrived.closing,
     };
-    *number += 1;
+    *number = number.wrapping_add(1);
     *number
 }
 
