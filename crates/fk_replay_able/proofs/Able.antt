@@ -1,8 +1,8 @@
 -- Who could act.
-use Rattle.std.proofs.Common.{◌≡◌, ◌≢◌, ◌⊎◌, inl, inr, ⊎_elim, ℕ, zero, suc, ◌+◌, ◌<◌, ◌==◌, ◌&&◌, ◌||◌, nat_lt, Bool, true, false, true≢false, List, [], ◌∷◌, length, slice_get, Option, Some, None, is_some, is_none, refl, sym, ap, ◌∙◌, subst, arith}
+use Rattle.std.proofs.Common.{◌≡◌, ◌≢◌, ◌⊎◌, inl, inr, ⊎_elim, ℕ, zero, suc, ◌+◌, ◌<◌, ◌==◌, ◌&&◌, ◌||◌, nat_lt, Bool, true, false, true≢false, List, [], ◌∷◌, length, slice_get, Option, Some, None, is_some, refl, sym, ap, ◌∙◌, subst, arith}
 use Rattle.std.specs.Prelude.{slice_index}
 use Rattle.std.specs.List.{list_all}
-use Rattle.std.proofs.lemmas.Bool.{and_parts, and_from, eqb-true, eq-eqb, cases_Bool}
+use Rattle.std.proofs.lemmas.Bool.{and_parts, and_from, eqb-true, eq-eqb}
 use Rattle.fk_meaning_operation.specs.Kinds.{class_of, joint_of}
 use Rattle.fk_meaning_operation.specs.declared.operation.Operation.{Operation}
 use Rattle.fk_meaning_operation.specs.declared.operation.Operation.TheVariants as o
@@ -16,18 +16,18 @@ use Rattle.fk_tree.specs.Sound.{Has, IsSound}
 use Rattle.fk_tree.proofs.Shapes.{has_some}
 use Rattle.fk_tree.proofs.Turns.{IsLeaf, leaf_by, leaf_ready, idle-lockstep, idle-asynchronous}
 use Rattle.fk_meaning.specs.Processor.{Setting}
-use Rattle.fk_meaning.specs.Round.{Step, Runner, State, Round, joint_due, joint_at, same_joint, body_of, lowest, all_do, joins, fits_kind, fits, all_fit, is_local, after_one, after_locals, begin, begin_all, is_local_next, are_local, may_act, all_may_act, is_allowed}
-use Rattle.fk_meaning.specs.Schedule.{CouldAct, IsIn}
+use Rattle.fk_meaning.specs.Round.{Step, Runner, State, Round, joint_due, joint_at, same_joint, body_of, all_do, joins, fits_kind, fits, all_fit, is_local, after_one, after_locals, begin, begin_all, is_local_next, are_local, may_act, all_may_act}
+use Rattle.fk_meaning.specs.Schedule.{CouldAct}
 use Rattle.fk_lockstep.proofs.Round.{all_at, some_at, first_is}
-use Rattle.fk_lockstep_tree.specs.Where.{Where, InRoot, InBody, BehindBody, goes}
-use Rattle.fk_lockstep_tree.specs.Placed.{where_in, IsInTree}
+use Rattle.fk_lockstep_tree.specs.Where.{Where, BehindBody, goes}
+use Rattle.fk_lockstep_tree.specs.Placed.{where_in}
 use Rattle.fk_lockstep_tree.specs.Runs.{StandsInTree}
 use Rattle.fk_lockstep_tree.proofs.Moves as moves
 use Rattle.fk_lockstep_tree.proofs.Paths.{at_node}
 use Rattle.fk_lockstep_tree.proofs.Waiters.{waiters_resume}
 use Rattle.fk_replay_counts.specs.Steady.{IsSteadyInTree}
 use Rattle.fk_replay_counts.proofs.Together.{turn_of, turns}
-use Rattle.fk_replay_able.specs.Able.{waits_for_none, step_of, step_at, joint_before, AreMet, IsAble, IsToldByAble, WhoCouldActIsAble}
+use Rattle.fk_replay_able.specs.Able.{waits_for_none, step_of, step_at, joint_before, AreMet, IsAble, WhoCouldActIsAble}
 
 -- ---- joint operations
 

@@ -1,7 +1,7 @@
 -- Those who have come are counted after a round as before it.
-use Rattle.std.proofs.Common.{◌≡◌, ◌≢◌, ◌⊎◌, inl, inr, ⊎_elim, ℕ, zero, suc, ◌+◌, ◌<◌, ◌==◌, ◌&&◌, Bool, true, false, true≢false, List, [], ◌∷◌, length, Option, Some, None, refl, sym, ap, ◌∙◌, subst, arith}
+use Rattle.std.proofs.Common.{◌≡◌, ◌≢◌, ◌⊎◌, inl, inr, ⊎_elim, ℕ, ◌+◌, ◌<◌, ◌&&◌, Bool, true, false, true≢false, List, [], ◌∷◌, Option, Some, None, refl, sym, ap, ◌∙◌, subst, arith}
 use Rattle.std.specs.Prelude.{slice_index}
-use Rattle.std.proofs.lemmas.Bool.{eqb-true, eq-eqb, cases_eq}
+use Rattle.std.proofs.lemmas.Bool.{cases_eq}
 use Rattle.fk_meaning_operation.specs.Kinds.{joint_of}
 use Rattle.fk_meaning_operation.specs.declared.operation.Operation.{Operation}
 use Rattle.fk_meaning_operation.specs.declared.operation.Operation.TheVariants as o
@@ -15,11 +15,11 @@ use Rattle.fk_tree.specs.Sound.{Has, IsSound}
 use Rattle.fk_tree.proofs.Shapes.{has_some, some-given}
 use Rattle.fk_tree.proofs.Turns.{leaf_by, idle-asynchronous}
 use Rattle.fk_meaning.specs.Processor.{Setting}
-use Rattle.fk_meaning.specs.Round.{Step, State, Round, joint_due, joint_at, same_joint, lowest, begin_all, fits_kind, is_possible, result}
+use Rattle.fk_meaning.specs.Round.{Step, State, Round, joint_due, same_joint, lowest, fits_kind, is_possible, result}
 use Rattle.fk_lockstep_tree.specs.Steps.{StepFits}
 use Rattle.fk_lockstep_tree.specs.Runs.{StandsInTree}
 use Rattle.fk_replay_counts.specs.Steady.{IsSteadyInTree}
-use Rattle.fk_replay_able.specs.Able.{waits_for_none, step_at, joint_before, AreMet, IsAble}
+use Rattle.fk_replay_able.specs.Able.{waits_for_none, joint_before, IsAble}
 use Rattle.fk_replay_able.specs.Known.{number_of, is_free, is_before, is_coming, IsCounter, IsAnnounced, KnowsAble, joint_taken, DoesLowest, AreForgotten, AreInRound, RoundsKnowAble}
 use Rattle.fk_replay_able.proofs.Able.{untrue, same_is, same_self, leaf_stands, acts_at, within}
 use Rattle.fk_replay_able.proofs.Rounds as rounds

@@ -1,7 +1,6 @@
 -- What a possible round makes of those who aren't in it, and of their nodes.
-use Rattle.std.proofs.Common.{◌≡◌, ◌≢◌, ◌⊎◌, inl, inr, ⊎_elim, ℕ, zero, suc, ◌+◌, ◌<◌, ◌≤◌, ◌==◌, ◌&&◌, ◌||◌, Bool, true, false, true≢false, List, [], ◌∷◌, length, slice_get, Option, Some, None, is_some, is_none, refl, sym, ap, ◌∙◌, subst, arith}
+use Rattle.std.proofs.Common.{◌≡◌, ◌≢◌, ◌⊎◌, inl, inr, ℕ, zero, suc, ◌+◌, ◌<◌, ◌==◌, ◌&&◌, ◌||◌, Bool, true, false, true≢false, List, [], ◌∷◌, length, slice_get, Option, Some, None, is_none, refl, sym, ap, ◌∙◌, subst, arith}
 use Rattle.std.specs.Prelude.{slice_index}
-use Rattle.std.specs.List.{list_all}
 use Rattle.std.proofs.lemmas.Bool.{and_parts, and_from, eqb-true, eq-eqb}
 use Rattle.std.proofs.lemmas.List.{length-map}
 use Rattle.fk_meaning_operation.specs.Kinds.{joint_of}
@@ -14,20 +13,18 @@ use Rattle.fk_tree.specs.Tree as t
 use Rattle.fk_tree.specs.Tree.{Tree, Node, is_member, is_from, has_ended, have_ended}
 use Rattle.fk_tree.specs.Sound.{Has, IsSound, awaits}
 use Rattle.fk_tree.proofs.Shapes.{has_some, some-given, from_within}
-use Rattle.fk_meaning_store.specs.Store.{Store}
 use Rattle.fk_meaning.specs.Processor.{Setting}
-use Rattle.fk_meaning.specs.Round.{Step, Runner, State, Round, Acting, Phases, Fault, taking, joint_due, joint_at, same_joint, body_of, all_do, joins, fits_kind, fits, all_fit, local_phase, begin, begin_all, asking, all_requests, all_changes, settled, settled_by, tree_phase, who, all_may_act, is_allowed, is_possible, result}
+use Rattle.fk_meaning.specs.Round.{Step, Runner, State, Round, Acting, Phases, Fault, taking, joint_due, joint_at, same_joint, body_of, all_do, joins, fits_kind, all_fit, local_phase, begin, begin_all, asking, all_requests, all_changes, settled, tree_phase, who, all_may_act, is_allowed, is_possible, result}
 use Rattle.fk_meaning.proofs.Stopped.{phase_fault}
-use Rattle.fk_lockstep.proofs.Round.{all_at, some_at, at_below, first_is, index_at, joint_is, requests_length, counts_there, begin_length}
+use Rattle.fk_lockstep.proofs.Round.{all_at, some_at, first_is, index_at, joint_is, requests_length, counts_there, begin_length}
 use Rattle.fk_lockstep.proofs.Rounds.{begin_at, map_at, settled_at, asked_at}
-use Rattle.fk_lockstep_nodes.specs.Steps.{KeepsOrDoes, StepsBy, MayStep, NodesStep, tree_by, stepping}
+use Rattle.fk_lockstep_nodes.specs.Steps.{KeepsOrDoes, StepsBy, NodesStep, tree_by, stepping}
 use Rattle.fk_lockstep_nodes.proofs.Nodes.{rounds_step_nodes}
 use Rattle.fk_lockstep_tree.specs.Steps.{AreKnown}
-use Rattle.fk_lockstep_tree.specs.Runs.{StandsInTree}
 use Rattle.fk_replay_counts.specs.Steady.{IsSteadyInTree}
 use Rattle.fk_replay_rounds.proofs.Joints.{taken_stay}
-use Rattle.fk_replay_able.specs.Able.{waits_for_none, step_of, step_at, joint_before, AreMet, IsAble}
-use Rattle.fk_replay_able.proofs.Able.{untrue, same_is, ActsAt, acts_at, fits_at, fits_some, alone_free, within}
+use Rattle.fk_replay_able.specs.Able.{waits_for_none, step_of, step_at, joint_before}
+use Rattle.fk_replay_able.proofs.Able.{untrue, same_is, ActsAt, acts_at, fits_at, fits_some, alone_free}
 
 -- ---- steps by number
 

@@ -2,6 +2,7 @@
 use Rattle.std.proofs.Common.{◌≡◌, ◌≢◌, ◌⊎◌, inl, inr, ℕ, zero, suc, ◌+◌, ◌<◌, ◌≤◌, ◌==◌, ◌^◌, ◌||◌, Bool, true, false, true≢false, List, [], ◌∷◌, length, map, set, slice_get, Option, Some, None, is_some, refl, sym, ap, ◌∙◌, subst, arith, if◌then◌else◌}
 use Rattle.std.proofs.Math.Path.{fun_ext}
 use Rattle.std.proofs.lemmas.Bool.{cases_eq}
+use Rattle.std.proofs.lemmas.Option.{slice_get_within}
 use Rattle.fk_meaning_operation.specs.declared.kinds.Joint.{Joint}
 use Rattle.fk_meaning_operation.specs.declared.kinds.Joint.TheVariants.{Resuming}
 use Rattle.fk_tree.specs.declared.node.Kind.{Kind}
@@ -20,10 +21,11 @@ use Rattle.fk_replay_phases.specs.declared.actor.Actor.{Actor}
 use Rattle.fk_replay_phases.specs.Modes.{HaveModes}
 use Rattle.fk_replay_able.specs.Able.{waits_for_none, step_of, step_at, joint_before}
 use Rattle.fk_replay_able.specs.Known.{with_one, with_all, is_free, KnowsAble, CountsOne, Arrives}
+use Rattle.fk_replay_able.proofs.Able.{same_is, same_self}
 use Rattle.fk_replay_able.proofs.Arrivals.{arrivals_know_able}
 use Rattle.fk_replay_arrivals.specs.declared.arrived.Arrived.{Arrived}
 use Rattle.fk_replay_arrivals.specs.Arrived.{number_in, number_for, arrived_in, is_known, HasNumber, HaveBegun, AreOf, KnowsBehind}
-use Rattle.fk_replay_arrivals.proofs.Begun.{BeginsOne}
+use Rattle.fk_replay_arrivals.proofs.Begun.{BeginsOne, set_here, set_there}
 
 module _ (core : List CoreOp) (tree : Tree) (actors : List Actor) (h : ℕ) (a : Actor) (at : slice_get actors h ≡ Some a) (modes : HaveModes tree actors) (joint : Joint)
     (joint_is : joint_due (next core (position_of a.runner)) ≡ joint) where
@@ -84,6 +86,30 @@ module _ (core : List CoreOp) (tree : Tree) (actors : List Actor) (h : ℕ) (a :
   pub record CountsAt (old new : List Arrived) : Type 0 where
     pub one : arrived_in new (lowest (t.members tree (tree.places h))) joint ≡ suc (arrived_in old (lowest (t.members tree (tree.places h))) joint)
     pub same : (g : ℕ) (k : Joint) → ((g ≡ lowest (t.members tree (tree.places h))) × (k ≡ joint) → ⊥) → arrived_in new g k ≡ arrived_in old g k
+
+  -- so it does if its numbers are replaced by those with one more
+  pub counts_set : (was : List Arrived) (x y : Arrived) (number : ℕ) → slice_get was (lowest (t.members tree (tree.places h))) ≡ Some x → HasNumber joint number x y
+      → number ≡ suc (number_in joint x) → CountsAt was (set was (lowest (t.members tree (tree.places h))) y)
+  counts_set was x y number there has number_is = record {
+    one =
+        ap (number_for joint) (set_here was (lowest (t.members tree (tree.places h))) y (slice_get_within was (lowest (t.members tree (tree.places h))) x there))
+        ∙ has joint ∙ ap (λ (b : Bool). if b then number else number_in joint x) (same_self joint) ∙ number_is
+        ∙ sym (ap (λ (o : Option Arrived). suc (number_for joint o)) there);
+    same = λ g k other. by g k other (cases_eq g (lowest (t.members tree (tree.places h))));
+  }
+    where
+      apart : (k : Joint) → (k ≡ joint → ⊥) → (b : Bool) → same_joint k joint ≡ b → same_joint k joint ≡ false
+      apart k ne false e = e
+      apart k ne true e = absurd (ne (sym (same_is k joint e)))
+
+      by : (g : ℕ) (k : Joint) → ((g ≡ lowest (t.members tree (tree.places h))) × (k ≡ joint) → ⊥) → (g ≡ lowest (t.members tree (tree.places h))) ⊎ (g ≡ lowest (t.members tree (tree.places h)) → ⊥)
+          → arrived_in (set was (lowest (t.members tree (tree.places h))) y) g k ≡ arrived_in was g k
+      by g k other (inr ne) = ap (number_for k) (set_there was (lowest (t.members tree (tree.places h))) g y ne)
+      by g k other (inl is) =
+          ap (λ (i : ℕ). arrived_in (set was (lowest (t.members tree (tree.places h))) y) i k) is
+          ∙ ap (number_for k) (set_here was (lowest (t.members tree (tree.places h))) y (slice_get_within was (lowest (t.members tree (tree.places h))) x there))
+          ∙ has k ∙ ap (λ (b : Bool). if b then number else number_in k x) (apart k (λ e. other (is, e)) (same_joint k joint) refl)
+          ∙ sym (ap (number_for k) there) ∙ sym (ap (λ (i : ℕ). arrived_in was i k) is)
 
   module _ (set : Setting) (s : State Position) (of : AreOf tree actors s) (coming : List ℕ) (able : ℕ → Bool) (old new : List Arrived) (counts : CountsAt old new) where
     counts_one : CountsOne (next core) s h coming able (arrived_in old) (arrived_in new)

@@ -11,12 +11,12 @@ set_length [] i x = refl
 set_length (y ∷ xs) zero x = refl
 set_length (y ∷ xs) (suc i) x = ap (λ (n : ℕ). suc n) (set_length xs i x)
 
-set_here : {A : Type 0} (xs : List A) (i : ℕ) (x : A) → i < length xs → slice_get (set xs i x) i ≡ Some x
+pub set_here : {A : Type 0} (xs : List A) (i : ℕ) (x : A) → i < length xs → slice_get (set xs i x) i ≡ Some x
 set_here [] i x lt = absurd (omega arith)
 set_here (y ∷ xs) zero x lt = refl
 set_here (y ∷ xs) (suc i) x lt = set_here xs i x (omega arith)
 
-set_there : {A : Type 0} (xs : List A) (i j : ℕ) (x : A) → (j ≡ i → ⊥) → slice_get (set xs i x) j ≡ slice_get xs j
+pub set_there : {A : Type 0} (xs : List A) (i j : ℕ) (x : A) → (j ≡ i → ⊥) → slice_get (set xs i x) j ≡ slice_get xs j
 set_there [] i j x ne = refl
 set_there (y ∷ xs) zero zero x ne = absurd (ne refl)
 set_there (y ∷ xs) zero (suc j) x ne = refl
