@@ -239,13 +239,11 @@ module _ {W X : Type 0} (next : W → Option (Step W)) (place : W → X) (set : 
   pub is_able : (h : ℕ) → CouldAct next set h s → IsAble next s h
   is_able h c = record { goes_on = x.goes_on; free = by x.lone }
     where
-
       parts : (all_may_act next set c.round s.runners ≡ true) × (all_fit c.round (λ i. joint_at (begin_all next set c.round s.runners) i) s.tree 0 c.round ≡ true)
       parts = and_parts (all_may_act next set c.round s.runners) (all_fit c.round (λ i. joint_at (begin_all next set c.round s.runners) i) s.tree 0 c.round) c.allowed
 
       x : ActsAt next set s ((joint_at (begin_all next set c.round s.runners) h)) h (slice_index c.round h)
       x = acts_at next set s c.round h parts.0 c.within
-
 
       there : s.tree.nodes (s.tree.places h) ≢ None
       there = has_some s.tree (s.tree.places h) h (sound.placed h (within h x.goes_on)).member
@@ -391,7 +389,6 @@ module _ {W X : Type 0} (next : W → Option (Step W)) (place : W → X) (set : 
   in_group : (h n : ℕ) → s.tree.places h ≡ n → t.kind s.tree n ≡ Some Lockstep → is_some (step_at next s h) ≡ true → CouldAct next set h s
   in_group h n place_is kind goes_on = could next set s (t.members s.tree n) each fit h has
     where
-
       has : Has s.tree n h
       has = subst (λ (i : ℕ). Has s.tree i h) place_is (stand.sound.placed h (within next place set s stand h goes_on)).member
 
@@ -421,7 +418,6 @@ module _ {W X : Type 0} (next : W → Option (Step W)) (place : W → X) (set : 
       r : IsThere next set s h
       r = is_there next set s h goes_on
 
-
       meets : joint_of r.step.operation ≡ AtBarrier
       meets = sym (ap (λ (x : Option (Runner W)). joint_due (step_of next x)) r.at ∙ ap joint_due r.ahead) ∙ barrier
 
@@ -447,8 +443,6 @@ module _ {W X : Type 0} (next : W → Option (Step W)) (place : W → X) (set : 
       → waits_for_none k (joint_before next s h) ≡ true → CouldAct next set h s
   by_itself h k kind free goes_on alone = could next set s (h ∷ []) each fit h here
     where
-
-
       here : is_member h (h ∷ []) ≡ true
       here = ap (λ (b : Bool). b || false) (eq-eqb h h refl)
 
@@ -497,9 +491,6 @@ module _ {W X : Type 0} (next : W → Option (Step W)) (place : W → X) (set : 
       → waits_for_none k (joint_before next s h) ≡ false → AreMet next s (s.tree.places h) (joint_before next s h) → CouldAct next set h s
   together h k kind free goes_on waits met = could next set s (t.members s.tree (s.tree.places h)) each fit h has
     where
-
-
-
       has : Has s.tree (s.tree.places h) h
       has = (stand.sound.placed h (within next place set s stand h goes_on)).member
 

@@ -143,8 +143,6 @@ module _ {W X : Type 0} (next : W → Option (Step W)) (place : W → X) (set : 
   nobody_left : (h : ℕ) (operation : Operation) → does (s.tree.places h) ≡ Some operation → (joint : Joint) → arrived' h joint ≡ 0
   nobody_left h operation e joint = ⊎_elim (λ c. by c) (λ none. zero_kept h joint (knows.others h joint none)) (decide_counter next s h joint)
     where
-
-
       present : (m : ℕ) → is_member m (t.members s.tree (s.tree.places h)) ≡ true → 0 < slice_index round m
       present m is = ⊎_elim (λ absent. absurd (rounds.all_present next place set round s steady possible (s.tree.places h) m operation e is absent)) (λ in_it. in_it) (zero_or_more (slice_index round m))
 
@@ -281,8 +279,6 @@ module _ {W X : Type 0} (next : W → Option (Step W)) (place : W → X) (set : 
       (λ m is. ap (λ (b : Bool). b && is_before next behind joint m) (is_in m (present m is))) in
       omega (arith, zero_is, same)
     where
-
-
       has : is_member h (t.members behind.tree (behind.tree.places h)) ≡ true
       has = subst (λ (i : ℕ). is_member i (t.members behind.tree (behind.tree.places h)) ≡ true) (sym c.lowest) (lowest_has set.processors behind.tree stands.sound (behind.tree.places h) (Asynchronous c.alone) c.kind)
 
