@@ -1,8 +1,8 @@
 -- Who could act.
-use Rattle.std.proofs.Common.{◌≡◌, ◌≢◌, ◌⊎◌, inl, inr, ⊎_elim, ℕ, zero, suc, ◌+◌, ◌<◌, ◌==◌, ◌&&◌, ◌||◌, nat_lt, Bool, true, false, true≢false, List, [], ◌∷◌, length, slice_get, Option, Some, None, is_some, is_none, refl, sym, ap, ◌∙◌, subst, arith}
+use Rattle.std.proofs.Common.{◌≡◌, ◌≢◌, ◌⊎◌, inl, inr, ⊎_elim, ℕ, zero, suc, ◌+◌, ◌<◌, ◌==◌, ◌&&◌, ◌||◌, nat_lt, Bool, true, false, true≢false, List, [], ◌∷◌, length, slice_get, Option, Some, None, is_some, refl, sym, ap, ◌∙◌, subst, arith}
 use Rattle.std.specs.Prelude.{slice_index}
 use Rattle.std.specs.List.{list_all}
-use Rattle.std.proofs.lemmas.Bool.{and_parts, and_from, eqb-true, eq-eqb, cases_Bool}
+use Rattle.std.proofs.lemmas.Bool.{and_parts, and_from, eqb-true, eq-eqb}
 use Rattle.fk_meaning_operation.specs.Kinds.{class_of, joint_of}
 use Rattle.fk_meaning_operation.specs.declared.operation.Operation.{Operation}
 use Rattle.fk_meaning_operation.specs.declared.operation.Operation.TheVariants as o
@@ -16,18 +16,18 @@ use Rattle.fk_tree.specs.Sound.{Has, IsSound}
 use Rattle.fk_tree.proofs.Shapes.{has_some}
 use Rattle.fk_tree.proofs.Turns.{IsLeaf, leaf_by, leaf_ready, idle-lockstep, idle-asynchronous}
 use Rattle.fk_meaning.specs.Processor.{Setting}
-use Rattle.fk_meaning.specs.Round.{Step, Runner, State, Round, joint_due, joint_at, same_joint, body_of, lowest, all_do, joins, fits_kind, fits, all_fit, is_local, after_one, after_locals, begin, begin_all, is_local_next, are_local, may_act, all_may_act, is_allowed}
-use Rattle.fk_meaning.specs.Schedule.{CouldAct, IsIn}
+use Rattle.fk_meaning.specs.Round.{Step, Runner, State, Round, joint_due, joint_at, same_joint, body_of, all_do, joins, fits_kind, fits, all_fit, is_local, after_one, after_locals, begin, begin_all, is_local_next, are_local, may_act, all_may_act}
+use Rattle.fk_meaning.specs.Schedule.{CouldAct}
 use Rattle.fk_lockstep.proofs.Round.{all_at, some_at, first_is}
-use Rattle.fk_lockstep_tree.specs.Where.{Where, InRoot, InBody, BehindBody, goes}
-use Rattle.fk_lockstep_tree.specs.Placed.{where_in, IsInTree}
+use Rattle.fk_lockstep_tree.specs.Where.{Where, BehindBody, goes}
+use Rattle.fk_lockstep_tree.specs.Placed.{where_in}
 use Rattle.fk_lockstep_tree.specs.Runs.{StandsInTree}
 use Rattle.fk_lockstep_tree.proofs.Moves as moves
 use Rattle.fk_lockstep_tree.proofs.Paths.{at_node}
 use Rattle.fk_lockstep_tree.proofs.Waiters.{waiters_resume}
 use Rattle.fk_replay_counts.specs.Steady.{IsSteadyInTree}
 use Rattle.fk_replay_counts.proofs.Together.{turn_of, turns}
-use Rattle.fk_replay_able.specs.Able.{waits_for_none, step_of, step_at, joint_before, AreMet, IsAble, IsToldByAble, WhoCouldActIsAble}
+use Rattle.fk_replay_able.specs.Able.{waits_for_none, step_of, step_at, joint_before, AreMet, IsAble, WhoCouldActIsAble}
 
 -- ---- joint operations
 
@@ -239,28 +239,22 @@ module _ {W X : Type 0} (next : W → Option (Step W)) (place : W → X) (set : 
   pub is_able : (h : ℕ) → CouldAct next set h s → IsAble next s h
   is_able h c = record { goes_on = x.goes_on; free = by x.lone }
     where
-      abbrev joints : ℕ → Joint
-      joints i = joint_at (begin_all next set c.round s.runners) i
+      parts : (all_may_act next set c.round s.runners ≡ true) × (all_fit c.round (λ i. joint_at (begin_all next set c.round s.runners) i) s.tree 0 c.round ≡ true)
+      parts = and_parts (all_may_act next set c.round s.runners) (all_fit c.round (λ i. joint_at (begin_all next set c.round s.runners) i) s.tree 0 c.round) c.allowed
 
-      parts : (all_may_act next set c.round s.runners ≡ true) × (all_fit c.round joints s.tree 0 c.round ≡ true)
-      parts = and_parts (all_may_act next set c.round s.runners) (all_fit c.round joints s.tree 0 c.round) c.allowed
-
-      x : ActsAt next set s (joints h) h (slice_index c.round h)
+      x : ActsAt next set s ((joint_at (begin_all next set c.round s.runners) h)) h (slice_index c.round h)
       x = acts_at next set s c.round h parts.0 c.within
 
-      abbrev n : ℕ
-      n = s.tree.places h
+      there : s.tree.nodes (s.tree.places h) ≢ None
+      there = has_some s.tree (s.tree.places h) h (sound.placed h (within h x.goes_on)).member
 
-      there : s.tree.nodes n ≢ None
-      there = has_some s.tree n h (sound.placed h (within h x.goes_on)).member
+      fit : fits_kind c.round (λ i. joint_at (begin_all next set c.round s.runners) i) s.tree h (s.tree.places h) (t.kind s.tree (s.tree.places h)) ≡ true
+      fit = fits_some c.round (λ i. joint_at (begin_all next set c.round s.runners) i) s.tree h (slice_index c.round h) c.within (fits_at c.round (λ i. joint_at (begin_all next set c.round s.runners) i) s.tree 0 c.round h h (omega arith) parts.1 c.within)
 
-      fit : fits_kind c.round joints s.tree h n (t.kind s.tree n) ≡ true
-      fit = fits_some c.round joints s.tree h (slice_index c.round h) c.within (fits_at c.round joints s.tree 0 c.round h h (omega arith) parts.1 c.within)
-
-      by : (joint_before next s h ≡ Alone) ⊎ (slice_index c.round h ≡ 1) → (waits_for_none (t.kind s.tree n) (joint_before next s h) ≡ true) ⊎ AreMet next s n (joint_before next s h)
-      by (inl alone) = inl (ap (waits_for_none (t.kind s.tree n)) alone ∙ alone_free (t.kind s.tree n))
+      by : (joint_before next s h ≡ Alone) ⊎ (slice_index c.round h ≡ 1) → (waits_for_none (t.kind s.tree (s.tree.places h)) (joint_before next s h) ≡ true) ⊎ AreMet next s (s.tree.places h) (joint_before next s h)
+      by (inl alone) = inl (ap (waits_for_none (t.kind s.tree (s.tree.places h))) alone ∙ alone_free (t.kind s.tree (s.tree.places h)))
       by (inr one) =
-          met_by c.round parts.0 n h (t.kind s.tree n) (joint_before next s h) refl there (λ first parts' kind. waits_resume h first parts' kind x.goes_on) fit (x.same one)
+          met_by c.round parts.0 (s.tree.places h) h (t.kind s.tree (s.tree.places h)) (joint_before next s h) refl there (λ first parts' kind. waits_resume h first parts' kind x.goes_on) fit (x.same one)
 
 -- ---- the round of those who are needed
 
@@ -393,15 +387,12 @@ module _ {W X : Type 0} (next : W → Option (Step W)) (place : W → X) (set : 
 
   -- all members of a group could act if one has an operation left
   in_group : (h n : ℕ) → s.tree.places h ≡ n → t.kind s.tree n ≡ Some Lockstep → is_some (step_at next s h) ≡ true → CouldAct next set h s
-  in_group h n place_is kind goes_on = could next set s ms each fit h has
+  in_group h n place_is kind goes_on = could next set s (t.members s.tree n) each fit h has
     where
-      abbrev ms : List ℕ
-      ms = t.members s.tree n
-
       has : Has s.tree n h
       has = subst (λ (i : ℕ). Has s.tree i h) place_is (stand.sound.placed h (within next place set s stand h goes_on)).member
 
-      each : (m : ℕ) → is_member m ms ≡ true → is_some (step_at next s m) ≡ true
+      each : (m : ℕ) → is_member m (t.members s.tree n) ≡ true → is_some (step_at next s m) ≡ true
       each m is =
           let many = stand.tree.many in
           let lt = stand.sound.within n m is in
@@ -410,14 +401,14 @@ module _ {W X : Type 0} (next : W → Option (Step W)) (place : W → X) (set : 
           ap (λ (x : Option (Runner W)). is_some (step_of next x)) q.1
           ∙ steady.together n h m 1 r.runner q.0 kind has is r.at q.1 (ap is_some r.ahead)
 
-      fit : (m : ℕ) → is_member m ms ≡ true → fits_kind (turn next set s ms each) (taken next set s ms each) s.tree m (s.tree.places m) (t.kind s.tree (s.tree.places m)) ≡ true
+      fit : (m : ℕ) → is_member m (t.members s.tree n) ≡ true → fits_kind (turn next set s (t.members s.tree n) each) (taken next set s (t.members s.tree n) each) s.tree m (s.tree.places m) (t.kind s.tree (s.tree.places m)) ≡ true
       fit m is =
           let there = leaf_stands set.processors s.tree stand.sound n (leaf_by set.processors n Lockstep s.tree stand.sound idle-lockstep kind) m is in
-          let round = turn next set s ms each in
-          subst (λ (i : ℕ). fits_kind round (taken next set s ms each) s.tree m i (t.kind s.tree i) ≡ true) (sym there)
-          (subst (λ (x : Option Kind). fits_kind round (taken next set s ms each) s.tree m n x ≡ true) (sym kind)
-          (all_members (λ i. slice_index round i == slice_index round m) ms (λ i in_group. eq-eqb (slice_index round i) (slice_index round m)
-          (once next set s ms each i in_group ∙ sym (once next set s ms each m is)))))
+          let round = turn next set s (t.members s.tree n) each in
+          subst (λ (i : ℕ). fits_kind round (taken next set s (t.members s.tree n) each) s.tree m i (t.kind s.tree i) ≡ true) (sym there)
+          (subst (λ (x : Option Kind). fits_kind round (taken next set s (t.members s.tree n) each) s.tree m n x ≡ true) (sym kind)
+          (all_members (λ i. slice_index round i == slice_index round m) (t.members s.tree n) (λ i in_group. eq-eqb (slice_index round i) (slice_index round m)
+          (once next set s (t.members s.tree n) each i in_group ∙ sym (once next set s (t.members s.tree n) each m is)))))
 
   -- who stands at a barrier in the body of a `seq` is the one who runs it
   runs_body : (h n : ℕ) → s.tree.places h ≡ n → t.kind s.tree n ≡ Some (Asynchronous true) → is_some (step_at next s h) ≡ true → joint_before next s h ≡ AtBarrier
@@ -426,9 +417,6 @@ module _ {W X : Type 0} (next : W → Option (Step W)) (place : W → X) (set : 
     where
       r : IsThere next set s h
       r = is_there next set s h goes_on
-
-      abbrev above : ℕ
-      above = length r.runner.has.outer
 
       meets : joint_of r.step.operation ≡ AtBarrier
       meets = sym (ap (λ (x : Option (Runner W)). joint_due (step_of next x)) r.at ∙ ap joint_due r.ahead) ∙ barrier
@@ -448,40 +436,34 @@ module _ {W X : Type 0} (next : W → Option (Step W)) (place : W → X) (set : 
       by true e = e
       by false e =
           let p = stand.tree.placed h r.runner r.at in
-          absurd (behind above (ap (where_in above (Some (Asynchronous true))) (sym e) ∙ sym (at_node s.tree h above n (Asynchronous true) place_is kind) ∙ p.there))
+          absurd (behind (length r.runner.has.outer) (ap (where_in (length r.runner.has.outer) (Some (Asynchronous true))) (sym e) ∙ sym (at_node s.tree h (length r.runner.has.outer) n (Asynchronous true) place_is kind) ∙ p.there))
 
   -- who waits for none could act by itself
   by_itself : (h : ℕ) (k : Option Kind) → t.kind s.tree (s.tree.places h) ≡ k → (k ≡ Some Lockstep → ⊥) → is_some (step_at next s h) ≡ true
       → waits_for_none k (joint_before next s h) ≡ true → CouldAct next set h s
-  by_itself h k kind free goes_on alone = could next set s ms each fit h here
+  by_itself h k kind free goes_on alone = could next set s (h ∷ []) each fit h here
     where
-      abbrev ms : List ℕ
-      ms = h ∷ []
-
-      abbrev n : ℕ
-      n = s.tree.places h
-
-      here : is_member h ms ≡ true
+      here : is_member h (h ∷ []) ≡ true
       here = ap (λ (b : Bool). b || false) (eq-eqb h h refl)
 
-      is_one : (m : ℕ) → is_member m ms ≡ true → m ≡ h
+      is_one : (m : ℕ) → is_member m (h ∷ []) ≡ true → m ≡ h
       is_one m is = eqb-true m h (or_none (m == h) is)
 
-      each : (m : ℕ) → is_member m ms ≡ true → is_some (step_at next s m) ≡ true
+      each : (m : ℕ) → is_member m (h ∷ []) ≡ true → is_some (step_at next s m) ≡ true
       each m is = subst (λ (i : ℕ). is_some (step_at next s i) ≡ true) (sym (is_one m is)) goes_on
 
       one_runs : (x : List ℕ) (i : ℕ) → is_member h (body_of (Some (Asynchronous true)) x) ≡ true → is_member i (body_of (Some (Asynchronous true)) x) ≡ true → i ≡ h
       one_runs [] i a b = untrue a
       one_runs (y ∷ ys) i a b = eqb-true i y (or_none (i == y) b) ∙ sym (eqb-true h y (or_none (h == y) a))
 
-      join : (x : Option Kind) (j : Joint) → t.kind s.tree n ≡ x → joint_before next s h ≡ j → (x ≡ Some Lockstep → ⊥) → waits_for_none x j ≡ true → joins (turn next set s ms each) (taken next set s ms each) s.tree n j ≡ true
+      join : (x : Option Kind) (j : Joint) → t.kind s.tree (s.tree.places h) ≡ x → joint_before next s h ≡ j → (x ≡ Some Lockstep → ⊥) → waits_for_none x j ≡ true → joins (turn next set s (h ∷ []) each) (taken next set s (h ∷ []) each) s.tree (s.tree.places h) j ≡ true
       join x Alone e is off alone = refl
       join (Some (Asynchronous true)) AtBarrier e is off alone =
-          subst (λ (y : Option Kind). all_do (turn next set s ms each) (taken next set s ms each) AtBarrier (body_of y (t.members s.tree n)) ≡ true) (sym e)
-          (do_all next set s ms each AtBarrier (body_of (Some (Asynchronous true)) (t.members s.tree n))
+          subst (λ (y : Option Kind). all_do (turn next set s (h ∷ []) each) (taken next set s (h ∷ []) each) AtBarrier (body_of y (t.members s.tree (s.tree.places h))) ≡ true) (sym e)
+          (do_all next set s (h ∷ []) each AtBarrier (body_of (Some (Asynchronous true)) (t.members s.tree (s.tree.places h)))
           (λ i in_body.
-          let same = one_runs (t.members s.tree n) i (runs_body h n refl e goes_on is) in_body in
-          (subst (λ (m : ℕ). is_member m ms ≡ true) (sym same) here, ap (joint_before next s) same ∙ is)))
+          let same = one_runs (t.members s.tree (s.tree.places h)) i (runs_body h (s.tree.places h) refl e goes_on is) in_body in
+          (subst (λ (m : ℕ). is_member m (h ∷ []) ≡ true) (sym same) here, ap (joint_before next s) same ∙ is)))
       join None Starting e is off alone = untrue alone
       join None AtBarrier e is off alone = untrue alone
       join None Closing e is off alone = untrue alone
@@ -499,48 +481,39 @@ module _ {W X : Type 0} (next : W → Option (Step W)) (place : W → X) (set : 
       join (Some (Asynchronous false)) Closing e is off alone = untrue alone
       join (Some (Asynchronous false)) Resuming e is off alone = untrue alone
 
-      fit : (m : ℕ) → is_member m ms ≡ true → fits_kind (turn next set s ms each) (taken next set s ms each) s.tree m (s.tree.places m) (t.kind s.tree (s.tree.places m)) ≡ true
+      fit : (m : ℕ) → is_member m (h ∷ []) ≡ true → fits_kind (turn next set s (h ∷ []) each) (taken next set s (h ∷ []) each) s.tree m (s.tree.places m) (t.kind s.tree (s.tree.places m)) ≡ true
       fit m is =
-          fits_there next set s ms each m n k (joint_before next s h) (ap s.tree.places (is_one m is)) kind free
-          (takes next set s ms each m is ∙ ap (joint_before next s) (is_one m is)) (join k (joint_before next s h) kind refl free alone)
+          fits_there next set s (h ∷ []) each m (s.tree.places h) k (joint_before next s h) (ap s.tree.places (is_one m is)) kind free
+          (takes next set s (h ∷ []) each m is ∙ ap (joint_before next s) (is_one m is)) (join k (joint_before next s h) kind refl free alone)
 
   -- all who have met could act
   together : (h : ℕ) (k : Option Kind) → t.kind s.tree (s.tree.places h) ≡ k → (k ≡ Some Lockstep → ⊥) → is_some (step_at next s h) ≡ true
       → waits_for_none k (joint_before next s h) ≡ false → AreMet next s (s.tree.places h) (joint_before next s h) → CouldAct next set h s
-  together h k kind free goes_on waits met = could next set s ms each fit h has
+  together h k kind free goes_on waits met = could next set s (t.members s.tree (s.tree.places h)) each fit h has
     where
-      abbrev n : ℕ
-      n = s.tree.places h
-
-      abbrev ms : List ℕ
-      ms = t.members s.tree n
-
-      abbrev j : Joint
-      j = joint_before next s h
-
-      has : Has s.tree n h
+      has : Has s.tree (s.tree.places h) h
       has = (stand.sound.placed h (within next place set s stand h goes_on)).member
 
-      some_due : (due : Option (Step W)) → joint_due due ≡ j → is_some due ≡ true
+      some_due : (due : Option (Step W)) → joint_due due ≡ (joint_before next s h) → is_some due ≡ true
       some_due None e = absurd (true≢false (sym (alone_free k) ∙ ap (waits_for_none k) e ∙ waits))
       some_due (Some step) e = refl
 
-      each : (m : ℕ) → is_member m ms ≡ true → is_some (step_at next s m) ≡ true
+      each : (m : ℕ) → is_member m (t.members s.tree (s.tree.places h)) ≡ true → is_some (step_at next s m) ≡ true
       each m is = some_due (step_at next s m) (met.before m is)
 
-      all : (i : Joint) → i ≡ j → (these : List ℕ) → ((m : ℕ) → is_member m these ≡ true → is_member m ms ≡ true) → all_do (turn next set s ms each) (taken next set s ms each) i these ≡ true
-      all i e these among = do_all next set s ms each i these (λ m is. (among m is, met.before m (among m is) ∙ sym e))
+      all : (i : Joint) → i ≡ (joint_before next s h) → (these : List ℕ) → ((m : ℕ) → is_member m these ≡ true → is_member m (t.members s.tree (s.tree.places h)) ≡ true) → all_do (turn next set s (t.members s.tree (s.tree.places h)) each) (taken next set s (t.members s.tree (s.tree.places h)) each) i these ≡ true
+      all i e these among = do_all next set s (t.members s.tree (s.tree.places h)) each i these (λ m is. (among m is, met.before m (among m is) ∙ sym e))
 
-      join : (i : Joint) → i ≡ j → joins (turn next set s ms each) (taken next set s ms each) s.tree n i ≡ true
+      join : (i : Joint) → i ≡ (joint_before next s h) → joins (turn next set s (t.members s.tree (s.tree.places h)) each) (taken next set s (t.members s.tree (s.tree.places h)) each) s.tree (s.tree.places h) i ≡ true
       join Alone e = refl
-      join Starting e = all Starting e ms (λ m is. is)
-      join AtBarrier e = all AtBarrier e (body_of (t.kind s.tree n) ms) (λ m is. body_among (t.kind s.tree n) ms m is)
-      join Closing e = all Closing e ms (λ m is. is)
+      join Starting e = all Starting e (t.members s.tree (s.tree.places h)) (λ m is. is)
+      join AtBarrier e = all AtBarrier e (body_of (t.kind s.tree (s.tree.places h)) (t.members s.tree (s.tree.places h))) (λ m is. body_among (t.kind s.tree (s.tree.places h)) (t.members s.tree (s.tree.places h)) m is)
+      join Closing e = all Closing e (t.members s.tree (s.tree.places h)) (λ m is. is)
       join Resuming e =
-          and_from (t.ready s.tree n) (all_do (turn next set s ms each) (taken next set s ms each) Resuming ms) (met.ready (sym e)) (all Resuming e ms (λ m is. is))
+          and_from (t.ready s.tree (s.tree.places h)) (all_do (turn next set s (t.members s.tree (s.tree.places h)) each) (taken next set s (t.members s.tree (s.tree.places h)) each) Resuming (t.members s.tree (s.tree.places h))) (met.ready (sym e)) (all Resuming e (t.members s.tree (s.tree.places h)) (λ m is. is))
 
-      fit : (m : ℕ) → is_member m ms ≡ true → fits_kind (turn next set s ms each) (taken next set s ms each) s.tree m (s.tree.places m) (t.kind s.tree (s.tree.places m)) ≡ true
-      fit m is = fits_there next set s ms each m n k j (met.stand m is) kind free (takes next set s ms each m is ∙ met.before m is) (join j refl)
+      fit : (m : ℕ) → is_member m (t.members s.tree (s.tree.places h)) ≡ true → fits_kind (turn next set s (t.members s.tree (s.tree.places h)) each) (taken next set s (t.members s.tree (s.tree.places h)) each) s.tree m (s.tree.places m) (t.kind s.tree (s.tree.places m)) ≡ true
+      fit m is = fits_there next set s (t.members s.tree (s.tree.places h)) each m (s.tree.places h) k (joint_before next s h) (met.stand m is) kind free (takes next set s (t.members s.tree (s.tree.places h)) each m is ∙ met.before m is) (join (joint_before next s h) refl)
 
   pub could_act : (h : ℕ) → IsAble next s h → CouldAct next set h s
   could_act h a = by (t.kind s.tree (s.tree.places h)) refl

@@ -1,9 +1,7 @@
 -- Who could act after a possible round.
-use Rattle.std.proofs.Common.{◌≡◌, ◌≢◌, ◌⊎◌, inl, inr, ⊎_elim, ℕ, zero, suc, ◌+◌, ◌<◌, ◌==◌, ◌||◌, Bool, true, false, true≢false, List, [], ◌∷◌, Option, Some, None, is_some, refl, sym, ap, ◌∙◌, subst, arith}
+use Rattle.std.proofs.Common.{◌≡◌, ◌⊎◌, inl, inr, ℕ, ◌<◌, ◌==◌, ◌||◌, Bool, true, false, true≢false, List, [], ◌∷◌, Option, is_some, refl, sym, ap, ◌∙◌, subst, arith}
 use Rattle.std.specs.Prelude.{slice_index}
 use Rattle.std.proofs.lemmas.Bool.{eqb-true}
-use Rattle.fk_meaning_operation.specs.declared.kinds.Joint.{Joint}
-use Rattle.fk_meaning_operation.specs.declared.kinds.Joint.TheVariants.{Resuming}
 use Rattle.fk_tree.specs.declared.node.Kind.{Kind}
 use Rattle.fk_tree.specs.Tree as t
 use Rattle.fk_tree.specs.Tree.{Node, is_member}
@@ -13,7 +11,7 @@ use Rattle.fk_meaning.specs.Processor.{Setting}
 use Rattle.fk_meaning.specs.Round.{Step, State, Round, joint_due, is_possible, result}
 use Rattle.fk_replay_counts.specs.Steady.{IsSteadyInTree}
 use Rattle.fk_replay_able.specs.Able.{waits_for_none, step_at, joint_before, AreMet, IsAble}
-use Rattle.fk_replay_able.proofs.Able.{untrue, within}
+use Rattle.fk_replay_able.proofs.Able.{untrue}
 use Rattle.fk_replay_able.proofs.Rounds as rounds
 use Rattle.fk_replay_able.proofs.Rounds.{zero_or_more}
 

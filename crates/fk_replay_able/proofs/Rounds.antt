@@ -1,9 +1,9 @@
 -- What a possible round makes of those who aren't in it, and of their nodes.
-use Rattle.std.proofs.Common.{◌≡◌, ◌≢◌, ◌⊎◌, inl, inr, ⊎_elim, ℕ, zero, suc, ◌+◌, ◌<◌, ◌≤◌, ◌==◌, ◌&&◌, ◌||◌, Bool, true, false, true≢false, List, [], ◌∷◌, length, slice_get, Option, Some, None, is_some, is_none, refl, sym, ap, ◌∙◌, subst, arith}
+use Rattle.std.proofs.Common.{◌≡◌, ◌≢◌, ◌⊎◌, inl, inr, ℕ, zero, suc, ◌+◌, ◌<◌, ◌==◌, ◌&&◌, ◌||◌, Bool, true, false, true≢false, List, [], ◌∷◌, length, slice_get, Option, Some, None, is_none, refl, sym, ap, ◌∙◌, subst, arith}
 use Rattle.std.specs.Prelude.{slice_index}
-use Rattle.std.specs.List.{list_all}
 use Rattle.std.proofs.lemmas.Bool.{and_parts, and_from, eqb-true, eq-eqb}
 use Rattle.std.proofs.lemmas.List.{length-map}
+use Rattle.fk_meaning_operation.specs.Kinds.{joint_of}
 use Rattle.fk_meaning_operation.specs.declared.operation.Operation.{Operation}
 use Rattle.fk_meaning_operation.specs.declared.kinds.Joint.{Joint}
 use Rattle.fk_meaning_operation.specs.declared.kinds.Joint.TheVariants.{Alone, Starting, AtBarrier, Closing, Resuming}
@@ -13,19 +13,18 @@ use Rattle.fk_tree.specs.Tree as t
 use Rattle.fk_tree.specs.Tree.{Tree, Node, is_member, is_from, has_ended, have_ended}
 use Rattle.fk_tree.specs.Sound.{Has, IsSound, awaits}
 use Rattle.fk_tree.proofs.Shapes.{has_some, some-given, from_within}
-use Rattle.fk_meaning_store.specs.Store.{Store}
 use Rattle.fk_meaning.specs.Processor.{Setting}
-use Rattle.fk_meaning.specs.Round.{Step, Runner, State, Round, Acting, Phases, Fault, taking, joint_due, joint_at, same_joint, body_of, all_do, joins, fits_kind, fits, all_fit, local_phase, begin, begin_all, asking, all_requests, all_changes, settled, settled_by, tree_phase, who, all_may_act, is_allowed, is_possible, result}
+use Rattle.fk_meaning.specs.Round.{Step, Runner, State, Round, Acting, Phases, Fault, taking, joint_due, joint_at, same_joint, body_of, all_do, joins, fits_kind, all_fit, local_phase, begin, begin_all, asking, all_requests, all_changes, settled, tree_phase, who, all_may_act, is_allowed, is_possible, result}
 use Rattle.fk_meaning.proofs.Stopped.{phase_fault}
-use Rattle.fk_lockstep.proofs.Round.{all_at, some_at, at_below, first_is, index_at, requests_length, counts_there, begin_length}
+use Rattle.fk_lockstep.proofs.Round.{all_at, some_at, first_is, index_at, joint_is, requests_length, counts_there, begin_length}
 use Rattle.fk_lockstep.proofs.Rounds.{begin_at, map_at, settled_at, asked_at}
-use Rattle.fk_lockstep_nodes.specs.Steps.{KeepsOrDoes, StepsBy, MayStep, NodesStep, tree_by, stepping}
+use Rattle.fk_lockstep_nodes.specs.Steps.{KeepsOrDoes, StepsBy, NodesStep, tree_by, stepping}
 use Rattle.fk_lockstep_nodes.proofs.Nodes.{rounds_step_nodes}
 use Rattle.fk_lockstep_tree.specs.Steps.{AreKnown}
-use Rattle.fk_lockstep_tree.specs.Runs.{StandsInTree}
 use Rattle.fk_replay_counts.specs.Steady.{IsSteadyInTree}
-use Rattle.fk_replay_able.specs.Able.{waits_for_none, step_of, step_at, joint_before, AreMet, IsAble}
-use Rattle.fk_replay_able.proofs.Able.{untrue, same_is, ActsAt, acts_at, fits_at, fits_some, alone_free, within}
+use Rattle.fk_replay_rounds.proofs.Joints.{taken_stay}
+use Rattle.fk_replay_able.specs.Able.{waits_for_none, step_of, step_at, joint_before}
+use Rattle.fk_replay_able.proofs.Able.{untrue, same_is, ActsAt, acts_at, fits_at, fits_some, alone_free}
 
 -- ---- steps by number
 
@@ -40,6 +39,9 @@ step_by tree does number (b ∷ actings) (suc i) a steps at =
     let same : suc number + i ≡ number + suc i = omega arith in
     subst (λ (k : ℕ). KeepsOrDoes (does (tree.places k)) a.due) same (step_by tree does (suc number) actings i a steps.2 at)
 
+same_there : {A : Type 0} (xs : List A) (h : ℕ) (x y : A) → slice_get xs h ≡ Some x → x ≡ y → slice_get xs h ≡ Some y
+same_there xs h x y at same = at ∙ ap (λ z. Some z) same
+
 none_of : {A : Type 0} (x : Option A) → is_none x ≡ true → x ≡ None
 none_of None e = refl
 none_of (Some a) e = untrue e
@@ -48,7 +50,7 @@ none_or_some : {A : Type 0} (x : Option A) → (x ≡ None) ⊎ (x ≢ None)
 none_or_some None = inl refl
 none_or_some (Some a) = inr (λ e. cc)
 
-zero_or_more : (c : ℕ) → (c ≡ 0) ⊎ (0 < c)
+pub zero_or_more : (c : ℕ) → (c ≡ 0) ⊎ (0 < c)
 zero_or_more zero = inl refl
 zero_or_more (suc c) = inr (omega arith)
 
@@ -118,7 +120,7 @@ module _ {W X : Type 0} (next : W → Option (Step W)) (place : W → X) (set : 
       = begin_at next set round s.runners h c.0 r.0 c.1 r.1 ∙ ap (λ (k : ℕ). Some (begin next set k r.0)) none in
       let passing = asked_at 0 (asking next set round s.runners) s.store h (taking r.0 None) no_fault
       (map_at (λ (a : Acting W). local_phase next set a a.due) (begin_all next set round s.runners) h (taking r.0 None) begun) in
-      (r.0, r.1, passing.at ∙ ap (λ (a : Acting W). Some a) passing.comes)
+      (r.0, r.1, same_there actings h passing.acting (taking r.0 None) passing.at passing.comes)
 
   pub runner_stays : (h : ℕ) → h < set.processors → slice_index round h ≡ 0 → slice_get behind.runners h ≡ slice_get s.runners h
   runner_stays h lt absent =
@@ -139,10 +141,13 @@ module _ {W X : Type 0} (next : W → Option (Step W)) (place : W → X) (set : 
       by None steps = refl
       by (Some operation) steps = absurd steps
 
-  pub place_stays : (h : ℕ) → h < set.processors → slice_index round h ≡ 0 → behind.tree.places h ≡ s.tree.places h
-  place_stays h lt absent =
+  pub place_kept : (h : ℕ) → known.does (s.tree.places h) ≡ None → behind.tree.places h ≡ s.tree.places h
+  place_kept h none =
       let g = s.tree.places h in
-      nodes.places h ∙ ap (λ (d : Option Operation). (tree_by s.tree (who (stepping next set round s)) (nodes.first g) g d).places h) (none_steps h lt absent)
+      nodes.places h ∙ ap (λ (d : Option Operation). (tree_by s.tree (who (stepping next set round s)) (nodes.first g) g d).places h) none
+
+  pub place_stays : (h : ℕ) → h < set.processors → slice_index round h ≡ 0 → behind.tree.places h ≡ s.tree.places h
+  place_stays h lt absent = place_kept h (none_steps h lt absent)
 
   -- a node at which nobody steps
   pub node_stays : (n : ℕ) → n < s.tree.given → known.does n ≡ None → behind.tree.nodes n ≡ s.tree.nodes n
@@ -162,6 +167,22 @@ module _ {W X : Type 0} (next : W → Option (Step W)) (place : W → X) (set : 
       by : (d : Option Operation) → known.does n ≡ d → known.does n ≡ None
       by None e = e
       by (Some operation) e = absurd (all_present n m operation e has absent)
+
+  -- the joint operation that is due at a node that steps
+  pub joint_steps : (n m : ℕ) (operation : Operation) → known.does n ≡ Some operation → Has s.tree n m → taken m ≡ joint_of operation
+  joint_steps n m operation e has =
+      let lt = sound.within n m has in
+      let a = some_at actings m (omega (arith, lt, many)) in
+      let zero_more : 0 + m ≡ m = omega arith in
+      let at = (known.may n operation e).stand m has in
+      let does : KeepsOrDoes (known.does (s.tree.places m)) a.0.due
+      = subst (λ (k : ℕ). KeepsOrDoes (known.does (s.tree.places k)) a.0.due) zero_more (step_by s.tree known.does 0 actings m a.0 known.steps a.1) in
+      sym (taken_stay W next set round s m) ∙ joint_is actings m a.0 a.1
+      ∙ by a.0.due (subst (λ (d : Option Operation). KeepsOrDoes d a.0.due) (ap known.does at ∙ e) does)
+    where
+      by : (due : Option (Step W)) → KeepsOrDoes (Some operation) due → joint_due due ≡ joint_of operation
+      by None steps = absurd steps
+      by (Some step) steps = ap joint_of steps
 
   -- what has ended stays so
   pub ended_stays : (n : ℕ) → n < s.tree.given → s.tree.nodes n ≡ None → behind.tree.nodes n ≡ None

@@ -1,0 +1,8 @@
+//! Processors come to their next operations, and it is kept up who could act.
+#![tactic(auto)]
+
+mod arrivals;
+mod arrived;
+
+pub use arrivals::{arrive, tell};
+pub use arrived::{Arrived, forget_all};
