@@ -79,7 +79,9 @@ module _ {W : Type 0} (next : W → Option (Step W)) (setting : Setting) (round 
   fit_of : (n h : ℕ) → ActsAt next setting round s n h → fits_kind round does s.tree h n (t.kind s.tree n) ≡ true
   fit_of n h acts =
       let count = count_at round h acts.is_in in
-      let fit : fits round does s.tree h (suc count.0) ≡ true = fit_at round does s.tree round 0 h (suc count.0) fit_all count.1 in
+      let same : 0 + h ≡ h = omega arith in
+      let fit : fits round does s.tree h (suc count.0) ≡ true
+      = subst (λ (i : ℕ). fits round does s.tree i (suc count.0) ≡ true) same (fit_at round does s.tree round 0 h (suc count.0) fit_all count.1) in
       subst (λ (m : ℕ). fits_kind round does s.tree h m (t.kind s.tree m) ≡ true) acts.place fit
 
   whole : (n h m : ℕ) → ActsAt next setting round s n h → t.kind s.tree n ≡ Some Lockstep → is_member m (t.members s.tree n) ≡ true → slice_index round m ≡ slice_index round h
