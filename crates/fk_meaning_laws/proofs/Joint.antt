@@ -1,5 +1,5 @@
 -- What the tests of an allowed round tell of each processor.
-use Rattle.std.proofs.Common.{◌≡◌, ◌≢◌, ℕ, zero, suc, ◌==◌, ◌+◌, ◌&&◌, Bool, true, false, List, [], ◌∷◌, slice_get, Option, Some, None, refl, sym, ap, ◌∙◌, subst, arith}
+use Rattle.std.proofs.Common.{◌≡◌, ◌≢◌, ℕ, zero, suc, ◌==◌, ◌+◌, ◌&&◌, true, false, List, [], ◌∷◌, slice_get, Option, Some, None, refl, ap, ◌∙◌, subst, arith}
 use Rattle.std.specs.Prelude.{slice_index}
 use Rattle.std.specs.List.{list_all}
 use Rattle.std.proofs.lemmas.Bool.{and_parts, eqb-true}
@@ -13,7 +13,7 @@ use Rattle.fk_meaning_operation.specs.declared.operation.Operation.TheVariants.{
 use Rattle.fk_meaning_operation.specs.declared.kinds.Joint.{Joint}
 use Rattle.fk_meaning_operation.specs.declared.kinds.Joint.TheVariants.{Alone}
 use Rattle.fk_meaning.specs.Processor.{Setting}
-use Rattle.fk_meaning.specs.Round.{Step, State, Round, Acting, joint_due, joint_at, same_joint, body_of, all_do, joins, fits_kind, fits, all_fit, begin_all, all_may_act, is_allowed}
+use Rattle.fk_meaning.specs.Round.{Step, State, Round, Acting, joint_due, joint_at, same_joint, all_do, joins, fits_kind, fits, all_fit, begin_all, all_may_act, is_allowed}
 use Rattle.fk_meaning.specs.Schedule.{IsIn}
 use Rattle.fk_meaning.specs.Touch.{operation_due}
 use Rattle.fk_lockstep.proofs.Acting.{untrue}
