@@ -45,6 +45,7 @@ module _ {W : Type 0} (next : W → Option (Step W)) (setting : Setting) (round 
     pub joint : (n h m : ℕ) (operation : Operation) → ActsAt n h
         → t.kind s.tree n ≢ Some Lockstep → ComesTo operation h
         → is_member m (needed_by operation n) ≡ true → DoesOnly operation m
+    -- A node goes on only after all its parts have ended.
     pub ready : (n h : ℕ) → ActsAt n h → t.kind s.tree n ≢ Some Lockstep → ComesTo Resume h
         → t.ready s.tree n ≡ true
 
