@@ -12,7 +12,7 @@ use Rattle.fk_top_words.specs.Command.{Command, Run, Build, Exec, ListCode, Elf,
 use Rattle.fk_top.specs.Words.{IsPut}
 use Rattle.fk_top.specs.Report.{line_of}
 use Rattle.fk_top.specs.Ending.{put_of}
-use Rattle.fk_top.specs.Outcome.{Outcome, Writing, Prints, Traces, EndsOn, EndsAudit, ComesTo, silent}
+use Rattle.fk_top.specs.Outcome.{Outcome, Writing, Prints, Traces, EndsOn, EndsAudit, ComesTo, silent, test_harts, test_cycles}
 use Rattle.fk_top.specs.Call.{Given, Request, Sunk, call_of, Ends, HasCause}
 
 -- the same request, with an equal count of faults
@@ -56,7 +56,7 @@ nothing_by words (Trace f p n) bytes text outcome reads (inl r) not = ap (λ (o 
 nothing_by words (Trace f p n) bytes text outcome reads (inr r) not = nothing_run r.image text p n Traces outcome r.ends
 nothing_by words (Selftest k) bytes text outcome reads (inl r) not = ap (λ (o : Outcome). o.put) r.is
 nothing_by words (Selftest k) bytes text outcome reads (inr (inl r)) not = ap (λ (o : Outcome). o.put) r.is
-nothing_by words (Selftest k) bytes text outcome reads (inr (inr r)) not = nothing_run r.image [] 64 4294967295 (Prints r.shown) outcome r.ends
+nothing_by words (Selftest k) bytes text outcome reads (inr (inr r)) not = nothing_run r.image [] test_harts test_cycles (Prints r.shown) outcome r.ends
 nothing_by words Locks bytes text outcome reads is not = ap (λ (o : Outcome). o.put) is
 
 -- what fails to be put is there

@@ -1,5 +1,5 @@
 -- Which answers come where no fault rose.
-use Rattle.std.proofs.Common.{◌≡◌, ℕ, ◌≤◌, Bool, true, false, List, [], ◌∷◌, Option, Some, None, Ok, Err, IsSome, codes, take, length, refl, sym, ap, subst, ◌∙◌, arith, ◌⊎◌, inl, inr}
+use Rattle.std.proofs.Common.{◌≡◌, ℕ, ◌≤◌, Bool, true, false, List, [], ◌∷◌, Option, Some, None, Ok, Err, IsSome, take, length, refl, sym, ap, subst, ◌∙◌, arith, ◌⊎◌, inl, inr}
 use Rattle.std.specs.Prelude.{IfSome, IsSomeAnd, nat_lt, vec_len}
 use Rattle.std.proofs.lemmas.Bool.{ltb-true, ltb-false, lt-ltb}
 use Rattle.std.proofs.lemmas.List.{take_all, length-take}
@@ -22,7 +22,7 @@ use Rattle.fk_compile.specs.Faithful.{IsFaithful, words_by}
 use Rattle.fk_top.specs.declared.status.Status.{Status}
 use Rattle.fk_top.specs.declared.status.Status.TheVariants.{Done, Refused, Usage, ReadFault, WriteFault, Memory, SourceFault, CycleBound, Trap, ImageRefused, InputRefused, ElfRefused}
 use Rattle.fk_top.specs.Words.{TakesInput, Puts, IsPut, Origin, FirstOf, Generated, Nowhere, origin_of, most_input}
-use Rattle.fk_top.specs.Outcome.{Outcome, Writing, Prints, Traces, EndsOn, EndsAudit, ComesTo, RefusesSource, RefusesImage, RefusesElf, LacksGlobal, IsShown, most_numbers}
+use Rattle.fk_top.specs.Outcome.{Outcome, Writing, Prints, Traces, EndsOn, EndsAudit, ComesTo, RefusesSource, RefusesImage, RefusesElf, LacksGlobal, IsShown, most_numbers, test_harts, test_cycles, test_shown}
 use Rattle.fk_top.specs.Refused.{IsRefusedBy, IsNoElfAs, IsNoImageAs}
 use Rattle.fk_top.specs.Call.{Call, Request, Change, Rose, Ends, IsUnread, IsFileUnread, OriginFaults, AreRead, AreThere, IsHeld, IsInputUnread, IsCut, IsOutOfMemory, HasEnded, HasCause, IsInOrder, IsReadable, IsAccepted, IsInputBeside, IsOfStand, IsOfAccepted, IsOfUnreadable, IsOfUnaccepted, IsText, IsImage, IsElf, AreCut}
 use Rattle.fk_top.proofs.Inputs.{none_refused}
@@ -148,7 +148,7 @@ put_by (Trace f p n) bytes text outcome (inl r) some = nothing_put outcome _ r.i
 put_by (Trace f p n) bytes text outcome (inr r) some = no_put_run r.image text p n Traces outcome r.ends some
 put_by (Selftest k) bytes text outcome (inl r) some = nothing_put outcome _ r.is refl some
 put_by (Selftest k) bytes text outcome (inr (inl r)) some = nothing_put outcome _ r.is refl some
-put_by (Selftest k) bytes text outcome (inr (inr r)) some = no_put_run r.image [] 64 4294967295 (Prints r.shown) outcome r.ends some
+put_by (Selftest k) bytes text outcome (inr (inr r)) some = no_put_run r.image [] test_harts test_cycles (Prints r.shown) outcome r.ends some
 put_by Locks bytes text outcome is some = nothing_put outcome _ is refl some
 
 -- the words of a call that puts are those of one
@@ -356,9 +356,9 @@ accepted_ends (Trace f p n) source text outcome status is input same (inr r) =
     let count = globals_of source r.image input.0 input.1 built input.2 in
     inr (r.image, built, accepted_run r.image text p n (length (words_by input.0 input.1)) Traces outcome status count input.3 same r.ends)
 accepted_ends (Selftest k) source text outcome status is input same (inl r) = absurd (text_accepted source r.line is.0 r.refused)
-accepted_ends (Selftest k) source text outcome status is input same (inr (inl r)) = absurd (asked_there source (Some (codes "c")) is.1 r.name is.2 r.asked r.none)
+accepted_ends (Selftest k) source text outcome status is input same (inr (inl r)) = absurd (asked_there source test_shown is.1 r.name is.2 r.asked r.none)
 accepted_ends (Selftest k) source text outcome status is input same (inr (inr r)) =
-    inr (r.image, r.compiled, accepted_alone r.image 64 4294967295 (Prints r.shown) outcome status same r.ends)
+    inr (r.image, r.compiled, accepted_alone r.image test_harts test_cycles (Prints r.shown) outcome status same r.ends)
 accepted_ends Locks bytes text outcome status is input same comes = inr (status-of outcome _ status comes same)
 
 -- where what is read isn't

@@ -14,7 +14,7 @@ use Rattle.fk_top_words.specs.Command.{Command, Run, Build, Exec, ListCode, Elf,
 use Rattle.fk_top.specs.declared.status.Status.{Status}
 use Rattle.fk_top.specs.declared.status.Status.TheVariants.{Done, Refused, SourceFault, CycleBound, Trap, ImageRefused, InputRefused, ElfRefused}
 use Rattle.fk_top.specs.Words.{Runs, IsRun, TakesInput, HasInput, IsExec}
-use Rattle.fk_top.specs.Outcome.{Outcome, Writing, Prints, Traces, EndsOn, EndsAudit, ComesTo, RefusesInput, status_of}
+use Rattle.fk_top.specs.Outcome.{Outcome, Writing, Prints, Traces, EndsOn, EndsAudit, ComesTo, RefusesInput, status_of, test_harts, test_cycles}
 use Rattle.fk_top.proofs.Inputs.{is_input, none_refused}
 
 -- the command reads a source, or bytes of an image or of an ELF file, or runs an image of bytes
@@ -145,7 +145,7 @@ outcome_is_of words (Trace f p n) bytes text outcome reads (inr r) =
 outcome_is_of words (Selftest k) bytes text outcome reads (inl r) = is_of (Selftest k) outcome _ r.is tt
 outcome_is_of words (Selftest k) bytes text outcome reads (inr (inl r)) = is_of (Selftest k) outcome _ r.is tt
 outcome_is_of words (Selftest k) bytes text outcome reads (inr (inr r)) =
-    of_source bytes [] r.image (Selftest k) 64 4294967295 (Prints r.shown) outcome tt (λ i. none_refused r.image i.fault i.refused) r.compiled
+    of_source bytes [] r.image (Selftest k) test_harts test_cycles (Prints r.shown) outcome tt (λ i. none_refused r.image i.fault i.refused) r.compiled
     (record { some = omega arith; few = omega arith; bound = omega arith }) r.ends
 outcome_is_of words Locks bytes text outcome reads is = is_of Locks outcome _ is tt
 

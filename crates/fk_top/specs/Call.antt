@@ -1,7 +1,7 @@
 -- Whole calls: why each ends as it does, and what the store and the sinks have after it.
 use Rattle.std.specs.Prelude.{◌+◌}
 use Rattle.std.specs.Prelude.{◌≡◌, ◌≢◌, ℕ, ◌≤◌, ◌⊎◌, List, [], length, vec_len, Option, Some, None}
-use Rattle.std.specs.Prelude.{IsSome, Ok, codes}
+use Rattle.std.specs.Prelude.{IsSome, Ok}
 use Rattle.std.specs.Io.KnownBytes.{append_known}
 use Rattle.fk_num.specs.Limits.{most_text_bytes}
 use Rattle.fk_ports.specs.Faults.{HasRisen}
@@ -30,7 +30,7 @@ use Rattle.fk_top.specs.Words.{IsRun, TakesInput, HasInput, Puts, IsPut, IsExec,
 use Rattle.fk_top.specs.Words.{Origin, FirstOf, Generated, Nowhere, origin_of, most_input}
 use Rattle.fk_top.specs.Report.{line_of}
 use Rattle.fk_top.specs.Outcome.{Put, Outcome, silent, status_of, IsShown, most_numbers}
-use Rattle.fk_top.specs.Outcome.{numbers_for, ComesTo}
+use Rattle.fk_top.specs.Outcome.{numbers_for, test_harts, test_cycles, test_shown, ComesTo}
 
 -- ---- the outside, before and after a call
 
@@ -309,7 +309,7 @@ IsReadable (Unelf file image) bytes = IsElf bytes
 IsReadable (Audit file harts cycles) source = IsText source
 IsReadable (Trace file harts cycles) source = IsText source
 IsReadable (Selftest statements) source = IsText source × (shown : Option Row)
-    × IsShown source (Some (codes "c")) shown
+    × IsShown source test_shown shown
 IsReadable Locks bytes = Unit {0}
 
 -- The text has numbers, and no more than there may be beside this many globals.
@@ -365,7 +365,7 @@ IsOfAccepted (Audit file harts cycles) source text status =
 IsOfAccepted (Trace file harts cycles) source text status =
     (status ≡ Memory) ⊎ IsOfRun source text harts cycles status
 IsOfAccepted (Selftest statements) source text status =
-    (status ≡ Memory) ⊎ IsOfRun source [] 64 4294967295 status
+    (status ≡ Memory) ⊎ IsOfRun source [] test_harts test_cycles status
 IsOfAccepted Locks bytes text status = (status ≡ Memory) ⊎ (status ≡ Done)
 
 -- The statuses where what is read isn't in order.

@@ -266,10 +266,12 @@ pub record AuditsSource (source text : List ℕ) (harts cycles : ℕ) (outcome :
   pub compiled : IsFaithful source image
   pub ends : EndsAudit image text harts cycles outcome
 
--- The bytes of an image of the source are put under a name.
+-- The bytes of an image of the source, which tells the events of the source's operations, are put
+-- under a name.
 pub record PutsImage (source name : List ℕ) (outcome : Outcome) : Type 0 where
   pub image : Image
   pub compiled : IsFaithful source image
+  pub events : TellsEvents source image
   pub bytes : List ℕ
   pub spelled : IsImageOf bytes image
   pub is : outcome ≡ built name bytes image
@@ -307,8 +309,19 @@ abbrev pub gave_lock : Outcome
 gave_lock =
     record { status = Done; put = None; output = lock_bytes; line = line_of (reports.Wrote 205) }
 
+-- A generated text is run by so many harts and for at most so many cycles, and this variable is
+-- shown.
+abbrev pub test_harts : ℕ
+test_harts = 64
+
+abbrev pub test_cycles : ℕ
+test_cycles = 4294967295
+
+abbrev pub test_shown : Option Text
+test_shown = Some (codes "c")
+
 -- The outcome of a command, for the bytes that it read and those of the input. A generated text is
--- run by 64 harts, without input numbers and for at most 2^32 - 1 cycles, and `c` is shown.
+-- run without input numbers.
 abbrev pub ComesTo : Command → List ℕ → List ℕ → Outcome → Type 0
 ComesTo (Run file harts cycles show) source text outcome =
     RefusesSource source outcome ⊎ LacksGlobal source show outcome
@@ -327,6 +340,6 @@ ComesTo (Audit file harts cycles) source text outcome = RefusesSource source out
 ComesTo (Trace file harts cycles) source text outcome = RefusesSource source outcome
     ⊎ TracesSource source text harts cycles outcome
 ComesTo (Selftest statements) source text outcome =
-    RefusesSource source outcome ⊎ LacksGlobal source (Some (codes "c")) outcome
-    ⊎ RunsSource source [] 64 4294967295 (Some (codes "c")) outcome
+    RefusesSource source outcome ⊎ LacksGlobal source test_shown outcome
+    ⊎ RunsSource source [] test_harts test_cycles test_shown outcome
 ComesTo Locks bytes text outcome = outcome ≡ gave_lock

@@ -1,6 +1,6 @@
 //! Whole runs of an image.
 
-ghost use Rattle.std.specs.Prelude.{◌≡◌, ◌≤◌, ◌+◌, vec_len, option_map, IfOk, OnErr, OnOk};
+ghost use Rattle.std.specs.Prelude.{◌≡◌, ◌≤◌, option_map, IfOk, OnErr, OnOk};
 ghost use Rattle.std.specs.Io.KnownBytes.{append_known};
 ghost use Rattle.fk_num.specs.Limits.{most_data_words};
 ghost use Rattle.fk_ports.specs.Faults.{HasRisen};

@@ -1,12 +1,13 @@
 //! The outcome of a command for a source.
 
-ghost use Rattle.std.specs.Prelude.{◌⊎◌, ℕ, List, [], Some, codes, map, option_map, IfOk};
+ghost use Rattle.std.specs.Prelude.{◌⊎◌, ℕ, List, [], map, option_map, IfOk};
 ghost use Rattle.fk_image.specs.Limits.{IsWithinLimits};
 ghost use Rattle.fk_layout_globals.specs.View.{row_of};
 ghost use Rattle.fk_compile_text.specs.Text.{HasRows};
 ghost use Rattle.fk_compile.specs.Faithful.{IsFaithful};
 ghost use Rattle.fk_top.specs.Outcome.{AuditsSource, LacksGlobal, PutsImage, RefusesSource};
 ghost use Rattle.fk_top.specs.Outcome.{RunsSource, TracesSource};
+ghost use Rattle.fk_top.specs.Outcome.{test_cycles, test_harts, test_shown};
 ghost use Rattle.fk_top.specs.Ending.{outcome_of};
 
 use crate::audit::audit_ending;
@@ -47,8 +48,8 @@ pub fn run_source<'a>(
 /// cycles, and to show the variable `c`. Fails if there isn't enough memory.
 pub fn test_source<'a>(alloc: Global, source: &[u8]) -> Result<Ending<'a>, AllocError>
     ensures { IfOk result (λ e. RefusesSource source.now (outcome_of e)
-        ⊎ LacksGlobal source.now (Some (codes "c")) (outcome_of e)
-        ⊎ RunsSource source.now [] 64 4294967295 (Some (codes "c")) (outcome_of e)) }
+        ⊎ LacksGlobal source.now test_shown (outcome_of e)
+        ⊎ RunsSource source.now [] test_harts test_cycles test_shown (outcome_of e)) }
 {
     let run = RunWords {
         harts: 64,

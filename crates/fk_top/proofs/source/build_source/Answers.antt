@@ -7,6 +7,7 @@ returns-in_ok-bytes-in-Ok c =
     inr (record {
       image = c.in-Ok.compiled.image;
       compiled = c.in-Ok.ensures.faithful;
+      events = c.in-Ok.ensures.events;
       bytes = c.in_ok-bytes-in-Ok.bytes.items;
       spelled = c.in_ok-bytes-in-Ok.ensures;
       is = let empty = c.new.ensures.items in let words = c.len.ensures in cc;
