@@ -19,7 +19,7 @@ use Rattle.fk_layout.specs.Layout.{tables_by}
 use Rattle.fk_layout.specs.Refusal.{Fits}
 use Rattle.fk_compile_text.specs.Text.{IsChecked}
 use Rattle.fk_tickets.specs.Lock.{opening}
-use Rattle.fk_locks.specs.Text.{lock_bytes}
+use Rattle.fk_locks_tokens.specs.Text.{lock_bytes}
 use Rattle.fk_locks_runs.specs.Locks.{AreWords, Excludes, asked}
 
 -- The first two functions of the program are those of the lock. Their operations have the first
