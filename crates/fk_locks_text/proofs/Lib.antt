@@ -1,0 +1,5 @@
+pub mod Marks
+pub mod Known
+pub mod Slots
+pub mod Codes
+pub mod Locks
