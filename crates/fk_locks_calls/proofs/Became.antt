@@ -93,13 +93,13 @@ module _ {W : Type 0} where
   passes_tree a st step false e c = tt
 
   passes_class : (st : Store) (a : Acting W) (step : Step W) (c : Class) → a.due ≡ Some step → class_of step.operation ≡ c → (c ≡ Local → ⊥) → PassedIn a (do_request st a c step)
-  passes_class st a step Local e f no = absurd (no refl)
-  passes_class st a step Request e f no = passes_answer a step (serve (request step.operation a.runner.has) st a.runner.has.number) e f
-  passes_class st a step Tree e f no = passes_tree a st step (has_room step.operation a.runner.has) e f
+  passes_class st a step Local e f differs = absurd (differs refl)
+  passes_class st a step Request e f differs = passes_answer a step (serve (request step.operation a.runner.has) st a.runner.has.number) e f
+  passes_class st a step Tree e f differs = passes_tree a st step (has_room step.operation a.runner.has) e f
 
   passes : (st : Store) (a : Acting W) (due : Option (Step W)) → a.due ≡ due → NotLocal due → PassedIn a (request_phase st a due)
-  passes st a None e no = Kept refl (λ s f. let bad : None ≡ Some s = sym e ∙ f in absurd (cc))
-  passes st a (Some step) e no = passes_class st a step (class_of step.operation) e refl no
+  passes st a None e differs = Kept refl (λ s f. let bad : None ≡ Some s = sym e ∙ f in absurd (cc))
+  passes st a (Some step) e differs = passes_class st a step (class_of step.operation) e refl differs
 
   -- all of them
   record PassedAt (actings others : List (Acting W)) (h : ℕ) (a : Acting W) : Type 0 where
@@ -112,8 +112,8 @@ module _ {W : Type 0} where
 
   pass_at : (number : ℕ) (actings : List (Acting W)) (st : Store) (h : ℕ) (a : Acting W) → (all_requests number actings st).fault ≡ None
       → slice_get actings h ≡ Some a → NotLocal a.due → PassedAt actings (all_requests number actings st).acting h a
-  pass_at number [] st h a e at no = absurd (cc)
-  pass_at number (c ∷ actings) st zero a e at no = by (request_phase st c c.due) (subst (λ (b : Acting W). PassedIn b (request_phase st b b.due)) (sym same) (passes st a a.due refl no)) e
+  pass_at number [] st h a e at differs = absurd (cc)
+  pass_at number (c ∷ actings) st zero a e at differs = by (request_phase st c c.due) (subst (λ (b : Acting W). PassedIn b (request_phase st b b.due)) (sym same) (passes st a a.due refl differs)) e
     where
       same : c ≡ a
       same = same_acting c a at
@@ -122,12 +122,13 @@ module _ {W : Type 0} where
           → PassedAt (c ∷ actings) (after_phase number st c actings (all_requests (suc number) actings) phase).acting 0 a
       by (Passes st' b) f e' = record { acting = b; at = refl; passed = subst (λ (d : Acting W). Passed d b) same f }
       by (Breaks site) f e' = absurd (cc)
-  pass_at number (c ∷ actings) st (suc h) a e at no = by (request_phase st c c.due) e
+  pass_at number (c ∷ actings) st (suc h) a e at differs = by (λ st' e'. pass_at (suc number) actings st' h a e' at differs) (request_phase st c c.due) e
     where
-      by : (phase : Phase W) → (after_phase number st c actings (all_requests (suc number) actings) phase).fault ≡ None
+      by : ((st' : Store) → (all_requests (suc number) actings st').fault ≡ None → PassedAt actings (all_requests (suc number) actings st').acting h a)
+          → (phase : Phase W) → (after_phase number st c actings (all_requests (suc number) actings) phase).fault ≡ None
           → PassedAt (c ∷ actings) (after_phase number st c actings (all_requests (suc number) actings) phase).acting (suc h) a
-      by (Passes st' b) e' = let r = pass_at (suc number) actings st' h a e' at no in record { acting = r.acting; at = r.at; passed = r.passed }
-      by (Breaks site) e' = absurd (cc)
+      by others (Passes st' b) e' = let r = others st' e' in record { acting = r.acting; at = r.at; passed = r.passed }
+      by others (Breaks site) e' = absurd (cc)
 
   -- the phase of the tree
   settled_at : (actings : List (Acting W)) (old new : t.Tree) (others : List (Acting W)) (h : ℕ) (b : Acting W)
@@ -137,14 +138,32 @@ module _ {W : Type 0} where
   settled_at actings old new (c ∷ others) (suc h) b at = settled_at actings old new others h b at
 
   settles : (actings : List (Acting W)) (old new : t.Tree) (a b : Acting W) (due : Option (Step W)) → a.due ≡ due → NotLocal due → Passed a b → Becomes a (settled_by actings old new b.runner b.due)
-  settles actings old new a b None e no (Kept is tree) =
+  settles actings old new a b None e differs (Kept is tree) =
       Same e (ap (λ (d : Acting W). settled_by actings old new d.runner d.due) is ∙ ap (settled_by actings old new a.runner) e)
-  settles actings old new a b (Some s) e no (Kept is tree) =
+  settles actings old new a b (Some s) e differs (Kept is tree) =
       let whole : settled_by actings old new b.runner b.due ≡ settled_by actings old new a.runner (Some s)
       = ap (λ (d : Acting W). settled_by actings old new d.runner d.due) is ∙ ap (settled_by actings old new a.runner) e in
       Done s e (subst (Does s a.runner.has) (sym whole) (Steps (goes_onward s.operation _ _ a.runner.has) (tree s e) refl (does_number s.operation _ _ a.runner.has)))
-  settles actings old new a b due e no (Serves s v f c is) =
+  settles actings old new a b due e differs (Serves s v f c is) =
       Done s f (Answered v c (ap (λ (d : Acting W). settled_by actings old new d.runner d.due) is))
+
+  -- whoever is there afterwards has asked
+  pass_none : (number : ℕ) (actings : List (Acting W)) (st : Store) (h : ℕ) → (all_requests number actings st).fault ≡ None → slice_get actings h ≡ None
+      → slice_get (all_requests number actings st).acting h ≡ None
+  pass_none number [] st h e at = refl
+  pass_none number (c ∷ actings) st zero e at = cc
+  pass_none number (c ∷ actings) st (suc h) e at = by (λ st' e'. pass_none (suc number) actings st' h e' at) (request_phase st c c.due) e
+    where
+      by : ((st' : Store) → (all_requests (suc number) actings st').fault ≡ None → slice_get (all_requests (suc number) actings st').acting h ≡ None)
+          → (phase : Phase W) → (after_phase number st c actings (all_requests (suc number) actings) phase).fault ≡ None
+          → slice_get (after_phase number st c actings (all_requests (suc number) actings) phase).acting (suc h) ≡ None
+      by others (Passes st' b) e' = others st' e'
+      by others (Breaks site) e' = absurd (cc)
+
+  settled_none : (actings : List (Acting W)) (old new : t.Tree) (others : List (Acting W)) (h : ℕ) → slice_get others h ≡ None → slice_get (settled actings old new others) h ≡ None
+  settled_none actings old new [] h at = refl
+  settled_none actings old new (c ∷ others) zero at = cc
+  settled_none actings old new (c ∷ others) (suc h) at = settled_none actings old new others h at
 
   module _ (next : W → Option (Step W)) (set : Setting) (round : Round) (s : State W) (no_fault : (result next set round s).fault ≡ None) where
     abbrev asks : List (Acting W)
@@ -162,32 +181,15 @@ module _ {W : Type 0} where
       pub becomes : Becomes a runner
 
     pub becomes_at : (h : ℕ) (a : Acting W) → slice_get asks h ≡ Some a → NotLocal a.due → BecomesAt h a
-    becomes_at h a at no =
-        let p = pass_at 0 asks s.store h a none at no in
+    becomes_at h a at differs =
+        let p = pass_at 0 asks s.store h a none at differs in
         let new = all_changes phases.acting s.tree phases.acting s.tree in
         let is : result next set round s ≡ tree_phase s.tree phases.store phases.acting None = ap (tree_phase s.tree phases.store phases.acting) none in
         record {
           runner = settled_by phases.acting s.tree new p.acting.runner p.acting.due;
           is_at = ap (λ (u : State W). slice_get u.runners h) is ∙ settled_at phases.acting s.tree new phases.acting h p.acting p.at;
-          becomes = settles phases.acting s.tree new a p.acting a.due refl no p.passed;
+          becomes = settles phases.acting s.tree new a p.acting a.due refl differs p.passed;
         }
-
-    -- whoever is there afterwards has asked
-    pass_none : (number : ℕ) (actings : List (Acting W)) (st : Store) (h : ℕ) → (all_requests number actings st).fault ≡ None → slice_get actings h ≡ None
-        → slice_get (all_requests number actings st).acting h ≡ None
-    pass_none number [] st h e at = at
-    pass_none number (c ∷ actings) st zero e at = cc
-    pass_none number (c ∷ actings) st (suc h) e at = by (request_phase st c c.due) e
-      where
-        by : (phase : Phase W) → (after_phase number st c actings (all_requests (suc number) actings) phase).fault ≡ None
-            → slice_get (after_phase number st c actings (all_requests (suc number) actings) phase).acting (suc h) ≡ None
-        by (Passes st' b) e' = pass_none (suc number) actings st' h e' at
-        by (Breaks site) e' = absurd (cc)
-
-    settled_none : (actings : List (Acting W)) (old new : t.Tree) (others : List (Acting W)) (h : ℕ) → slice_get others h ≡ None → slice_get (settled actings old new others) h ≡ None
-    settled_none actings old new [] h at = at
-    settled_none actings old new (c ∷ others) zero at = cc
-    settled_none actings old new (c ∷ others) (suc h) at = settled_none actings old new others h at
 
     pub asks_at : (h : ℕ) (r : Runner W) → slice_get (result next set round s).runners h ≡ Some r → (a : Acting W) × (slice_get asks h ≡ Some a)
     asks_at h r at = by (slice_get asks h) refl

@@ -110,18 +110,21 @@ module _ (tables : Tables) (program : ProgramTree) (lock : HasLock tables progra
   abbrev coded : FunctionTree → ℕ
   coded f = size (code_of tables all f)
 
+  sizes_of_take : 0 + coded lock.takes ≡ 18
+  sizes_of_take = let t = take_size in omega (arith, t)
+
   takes_is : bodies_of tables program take ≡ code_of_take
   takes_is =
       ap (body take 0) lock.are
-      ∙ here take (numbered 0 (code_of tables all lock.takes)) (body take (coded lock.takes) (lock.gives ∷ lock.others))
+      ∙ here take (numbered 0 (code_of tables all lock.takes)) (body take (0 + coded lock.takes) (lock.gives ∷ lock.others))
       ∙ lock.take_code
 
   gives_is : bodies_of tables program give ≡ code_of_give
   gives_is =
       ap (body give 0) lock.are
-      ∙ past take give (numbered 0 (code_of tables all lock.takes)) (body give (coded lock.takes) (lock.gives ∷ lock.others)) lock.apart
-      ∙ here give (numbered (coded lock.takes) (code_of tables all lock.gives)) (body give (coded lock.takes + coded lock.gives) lock.others)
-      ∙ ap (λ n. numbered n (code_of tables all lock.gives)) take_size
+      ∙ past take give (numbered 0 (code_of tables all lock.takes)) (body give (0 + coded lock.takes) (lock.gives ∷ lock.others)) lock.apart
+      ∙ here give (numbered (0 + coded lock.takes) (code_of tables all lock.gives)) (body give (0 + coded lock.takes + coded lock.gives) lock.others)
+      ∙ ap (λ n. numbered n (code_of tables all lock.gives)) sizes_of_take
       ∙ lock.give_code
 
   later : (fs : List FunctionTree) (n b : ℕ) → 27 ≤ n → FunctionsFit tables (signature_in tables all) (is_defined tables all) fs → Outer take give (body b n fs)
@@ -137,16 +140,16 @@ module _ (tables : Tables) (program : ProgramTree) (lock : HasLock tables progra
   others_fit =
       let whole : FunctionsFit tables (signature_in tables all) (is_defined tables all) (lock.takes ∷ lock.gives ∷ lock.others)
       = subst (λ fs. FunctionsFit tables (signature_in tables all) (is_defined tables all) fs) lock.are fits in
-      whole.2
+      whole.1.1
 
   other_is : (b : ℕ) → (b ≡ take → ⊥) → (b ≡ give → ⊥) → Outer take give (bodies_of tables program b)
   other_is b not_t not_g =
-      let sizes : 27 ≤ coded lock.takes + coded lock.gives = let t = take_size in let g = give_size in omega (arith, t, g) in
-      let is : bodies_of tables program b ≡ body b (coded lock.takes + coded lock.gives) lock.others
+      let sizes : 27 ≤ 0 + coded lock.takes + coded lock.gives = let t = take_size in let g = give_size in omega (arith, t, g) in
+      let is : bodies_of tables program b ≡ body b (0 + coded lock.takes + coded lock.gives) lock.others
       = ap (body b 0) lock.are
-      ∙ past take b (numbered 0 (code_of tables all lock.takes)) (body b (coded lock.takes) (lock.gives ∷ lock.others)) (λ same. not_t (sym same))
-      ∙ past give b (numbered (coded lock.takes) (code_of tables all lock.gives)) (body b (coded lock.takes + coded lock.gives) lock.others) (λ same. not_g (sym same)) in
-      subst (Outer take give) (sym is) (later lock.others (coded lock.takes + coded lock.gives) b sizes others_fit)
+      ∙ past take b (numbered 0 (code_of tables all lock.takes)) (body b (0 + coded lock.takes) (lock.gives ∷ lock.others)) (λ same. not_t (sym same))
+      ∙ past give b (numbered (0 + coded lock.takes) (code_of tables all lock.gives)) (body b (0 + coded lock.takes + coded lock.gives) lock.others) (λ same. not_g (sym same)) in
+      subst (Outer take give) (sym is) (later lock.others (0 + coded lock.takes + coded lock.gives) b sizes others_fit)
 
   pub has_bodies : HasBodies take give (bodies_of tables program)
   has_bodies = record { takes = takes_is; gives = gives_is; others = other_is }

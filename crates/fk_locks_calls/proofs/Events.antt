@@ -45,6 +45,11 @@ told_fold : (l : Lock) (h : ℕ) (o : Option Act) (es : List Event) → fold aft
 told_fold l h None es = refl
 told_fold l h (Some act) es = refl
 
+told_fair : (p : ℕ) (l : Lock) (h : ℕ) (o : Option Act) (es : List Event) → h < p → ((act : Act) → o ≡ Some act → MayDo act (l.stage h)) → FairFrom p (fold after l (told_by o h [])) es
+    → FairFrom p l (told_by o h es)
+told_fair p l h None es low may rest = rest
+told_fair p l h (Some act) es low may rest = (low, may act refl, rest)
+
 module _ {W : Type 0} (x : ℕ) where
   abbrev pub act_of : Acting W → Option Act
   act_of a = act_by (touch x a) (touch (suc x) a)
@@ -106,11 +111,6 @@ module _ {W : Type 0} (x : ℕ) where
       ∙ other_told l b.runner.has.number (act_of b) (n + suc i) (λ is. omega (arith, is, number))
 
   -- ---- the round is fair if each of its acts may be done in the stage that its processor has before
-
-  told_fair : (p : ℕ) (l : Lock) (h : ℕ) (o : Option Act) (es : List Event) → h < p → ((act : Act) → o ≡ Some act → MayDo act (l.stage h)) → FairFrom p (fold after l (told_by o h [])) es
-      → FairFrom p l (told_by o h es)
-  told_fair p l h None es low may rest = rest
-  told_fair p l h (Some act) es low may rest = (low, may act refl, rest)
 
   pub round_fair : (p n : ℕ) (actings : List (Acting W)) (l : Lock) → Numbered n actings
       → ((i : ℕ) (a : Acting W) → slice_get actings i ≡ Some a → (n + i < p) × ((act : Act) → act_of a ≡ Some act → MayDo act (l.stage (n + i))))

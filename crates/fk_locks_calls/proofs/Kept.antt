@@ -77,7 +77,7 @@ module _ (take give : ℕ) (bodies : ℕ → Code ℕ) (has : HasBodies take giv
 
     pub asks_no_local : (a : Acting Work) → Asks Taken Given stage a → NotLocal a.due
     asks_no_local a (Rests e w) = subst NotLocal (sym e) tt
-    asks_no_local a (Due s e f no st) = subst NotLocal (sym e) no
+    asks_no_local a (Due s e f differs st) = subst NotLocal (sym e) differs
 
   -- ---- how it accesses the words
 
@@ -102,6 +102,13 @@ module _ (take give : ℕ) (bodies : ℕ → Code ℕ) (has : HasBodies take giv
 
   apart' : (y : ℕ) → y ≡ suc y → ⊥
   apart' y e = omega (arith, e)
+
+  -- the step of one that is away has a later site, and one in a call does what is next there
+  site_away : (a : Acting Work) (s : Step Work) → next bodies a.runner.left ≡ Some s → OuterWork take give a.runner.left → Stepped take give (Some s)
+  site_away a s e h = subst (Stepped take give) e (is_stepped take give bodies has a.runner.left h)
+
+  step_is : (a : Acting Work) (s : Step Work) (q : Point) (cs : List (Code ℕ)) → next bodies a.runner.left ≡ Some s → a.runner.left ≡ record { left = code_at q; callers = cs } → s ≡ step_at q cs
+  step_is a s q cs e left = same_some s (step_at q cs) (sym e ∙ next_at take give bodies has set x q cs a.runner left)
 
   module _ {Taken Given : Type 0} {stage : Stage} where
     on_acts : (a : Acting Work) (q : Point) → operation_due a.due ≡ Some (operation_at q) → IsOn Taken Given x stage q a.runner.has → Acts stage a
@@ -135,22 +142,15 @@ module _ (take give : ℕ) (bodies : ℕ → Code ℕ) (has : HasBodies take giv
       may = λ act is. subst (λ k. MayDo k stage) (same_some Give act is) (subst (MayDo Give) (sym on.stage_is) tt);
     }
 
-    -- the step of one that is away has a later site, and one in a call does what is next there
-    site_away : (a : Acting Work) (s : Step Work) → next bodies a.runner.left ≡ Some s → OuterWork take give a.runner.left → Stepped take give (Some s)
-    site_away a s e h = subst (Stepped take give) e (is_stepped take give bodies has a.runner.left h)
-
-    step_is : (a : Acting Work) (s : Step Work) (q : Point) (cs : List (Code ℕ)) → next bodies a.runner.left ≡ Some s → a.runner.left ≡ record { left = code_at q; callers = cs } → s ≡ step_at q cs
-    step_is a s q cs e left = same_some s (step_at q cs) (sym e ∙ next_at take give bodies has set x q cs a.runner left)
-
     pub acts : (a : Acting Work) → Alone x a → Asks Taken Given stage a → Acts stage a
     acts a alone (Rests e w) = nothing a (untouched x a alone (λ s f lt called. let bad : None ≡ Some s = sym e ∙ f in absurd (cc)))
-    acts a alone (Due s e f no (Away h idle)) =
+    acts a alone (Due s e f differs (Away h idle)) =
         let high = (site_away a s f h).0 in
         nothing a (untouched x a alone (λ u g lt called.
         let same : s.site ≡ u.site = ap (λ (k : Step Work). k.site) (same_some s u (sym e ∙ g)) in
         omega (arith, high, same, lt)))
-    acts a alone (Due s e f no (Within q cs outer left (Other other idle))) = nothing a (untouched x a alone (λ u g lt called. other called))
-    acts a alone (Due s e f no (Within q cs outer left (This on))) =
+    acts a alone (Due s e f differs (Within q cs outer left (Other other idle))) = nothing a (untouched x a alone (λ u g lt called. other called))
+    acts a alone (Due s e f differs (Within q cs outer left (This on))) =
         on_acts a q (ap operation_due e ∙ ap (λ (k : Step Work). Some k.operation) (step_is a s q cs f left)) on
 
   -- ---- what becomes of it
@@ -213,7 +213,7 @@ module _ (take give : ℕ) (bodies : ℕ → Code ℕ) (has : HasBodies take giv
   not_outer' : Outer take give code_of_give → ⊥
   not_outer' h = let bad = h.0 in omega (arith, bad)
 
-  module _ {Taken Given Taken' Given' : Type 0} {stage stage' : Stage} (a : Acting Work) (turns : Turns x Taken Given Taken' Given' a) (alone : Alone x a) where
+  module _ (Taken Given Taken' Given' : Type 0) (stage stage' : Stage) (a : Acting Work) (turns : Turns x Taken Given Taken' Given' a) (alone : Alone x a) where
     abbrev p : Processor
     p = a.runner.has
 
@@ -286,28 +286,28 @@ module _ (take give : ℕ) (bodies : ℕ → Code ℕ) (has : HasBodies take giv
 
       on_becomes : (q : Point) → operation_due a.due ≡ Some (operation_at q) → IsOn Taken Given x stage q p → NextStage a stage stage' (r_at q) → Ends (r_at q)
       on_becomes TakeChecks e on ends =
-          as_before (ends Nothing (on_acts a TakeChecks e on).accesses) (take_checked take give bodies has set x room cs outer p v (later_on TakeChecks p quiet.0 quiet.1 on))
+          as_before (ends Nothing (on_acts a TakeChecks e on).accesses) (take_checked take give bodies has set x room Taken' Given' stage cs outer p v (later_on TakeChecks p quiet.0 quiet.1 on))
       on_becomes TakeChecksShared e on ends =
-          as_before (ends Nothing (on_acts a TakeChecksShared e on).accesses) (take_checked_shared take give bodies has set x room cs outer p v (later_on TakeChecksShared p quiet.0 quiet.1 on))
+          as_before (ends Nothing (on_acts a TakeChecksShared e on).accesses) (take_checked_shared take give bodies has set x room Taken' Given' stage cs outer p v (later_on TakeChecksShared p quiet.0 quiet.1 on))
       on_becomes Draws e on ends =
-          drawn take give bodies has set x room cs outer p v on.called on.has (ends Drawing (on_acts a Draws e on).accesses) (quiet.0 on.turn_is)
+          drawn take give bodies has set x room Taken' Given' stage' cs outer p v on.called on.has (ends Drawing (on_acts a Draws e on).accesses) (quiet.0 on.turn_is)
       on_becomes LookChecks e on ends =
-          as_before (ends Nothing (on_acts a LookChecks e on).accesses) (look_checked take give bodies has set x room cs outer p v (later_on LookChecks p quiet.0 quiet.1 on))
+          as_before (ends Nothing (on_acts a LookChecks e on).accesses) (look_checked take give bodies has set x room Taken' Given' stage cs outer p v (later_on LookChecks p quiet.0 quiet.1 on))
       on_becomes Looks e on ends =
           subst (λ k. Runs Taken' Given' k (r_at Looks)) (sym (ends Looking (on_acts a Looks e on).accesses))
           (looked_on take give bodies has set x room stage cs outer p v (later_on Looks p quiet.0 quiet.1 on))
       on_becomes GiveChecks e on ends =
-          as_before (ends Nothing (on_acts a GiveChecks e on).accesses) (give_checked take give bodies has set x room cs outer p v (later_on GiveChecks p quiet.0 quiet.1 on))
+          as_before (ends Nothing (on_acts a GiveChecks e on).accesses) (give_checked take give bodies has set x room Taken' Given' stage cs outer p v (later_on GiveChecks p quiet.0 quiet.1 on))
       on_becomes GiveChecksShared e on ends =
-          as_before (ends Nothing (on_acts a GiveChecksShared e on).accesses) (give_checked_shared take give bodies has set x room cs outer p v (later_on GiveChecksShared p quiet.0 quiet.1 on))
+          as_before (ends Nothing (on_acts a GiveChecksShared e on).accesses) (give_checked_shared take give bodies has set x room Taken' Given' stage cs outer p v (later_on GiveChecksShared p quiet.0 quiet.1 on))
       on_becomes Adds e on ends =
-          given take give bodies has set x room cs outer p v (ends Giving (on_acts a Adds e on).accesses) (quiet.1 on.turn_is)
+          given take give bodies has set x room Taken' Given' stage' cs outer p v (ends Giving (on_acts a Adds e on).accesses) (quiet.1 on.turn_is)
 
       call_becomes : (q : Point) → operation_due a.due ≡ Some (operation_at q) → InCall Taken Given x stage q p → NextStage a stage stage' (r_at q) → Ends (r_at q)
       call_becomes q e (This on) ends = on_becomes q e on ends
       call_becomes q e (Other other idle) ends =
           as_before (ends Nothing (untouched x a alone (λ u g lt called. other called)))
-          (other_answered take give bodies has set x room cs outer p q v other (later_idle quiet.0 quiet.1 idle))
+          (other_answered take give bodies has set x room Taken' Given' stage cs outer p q v other (later_idle quiet.0 quiet.1 idle))
 
     does_becomes : (s : Step Work) (r : Runner Work) → a.due ≡ Some s → next bodies a.runner.left ≡ Some s → Stood Taken Given stage a.runner → Does s p r → NextStage a stage stage' r → Ends r
     does_becomes s r e f (Away h idle) d ends =
@@ -333,6 +333,6 @@ module _ (take give : ℕ) (bodies : ℕ → Code ℕ) (has : HasBodies take giv
         let none = untouched x a alone (λ s f lt called. let bad : None ≡ Some s = sym e ∙ f in absurd (cc)) in
         as_before (ends Nothing none) (subst (Runs Taken' Given' stage) (sym is) (later a.runner quiet.0 quiet.1 w))
     becomes r (Rests e w) (Done s f d) ends = let bad : None ≡ Some s = sym e ∙ f in absurd (cc)
-    becomes r (Due s e f no st) (Same g is) ends = let bad : None ≡ Some s = sym g ∙ e in absurd (cc)
-    becomes r (Due s e f no st) (Done u g d) ends =
+    becomes r (Due s e f differs st) (Same g is) ends = let bad : None ≡ Some s = sym g ∙ e in absurd (cc)
+    becomes r (Due s e f differs st) (Done u g d) ends =
         let same : u ≡ s = same_some u s (sym g ∙ e) in does_becomes s r e f st (subst (λ k. Does k p r) same d) ends

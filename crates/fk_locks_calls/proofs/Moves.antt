@@ -84,8 +84,8 @@ module _ (take give : ℕ) (bodies : ℕ → Code ℕ) (has : HasBodies take giv
 
   -- ---- in a call with the address of word x
 
-  module _ {Taken Given : Type 0} {stage : Stage} (cs : List (Code ℕ)) (outer : AllOuter take give cs) (p : Processor) where
-    abbrev pub answered : Point → ℕ → Runner Work
+  module _ (Taken Given : Type 0) (stage : Stage) (cs : List (Code ℕ)) (outer : AllOuter take give cs) (p : Processor) where
+    abbrev answered : Point → ℕ → Runner Work
     answered q v = record { left = going (left_after q) cs; has = with_answer (operation_at q) v p }
 
     pub take_checked : (v : ℕ) → IsOn Taken Given x stage TakeChecks p → Goes Taken Given stage (answered TakeChecks v)
@@ -171,12 +171,12 @@ module _ (take give : ℕ) (bodies : ℕ → Code ℕ) (has : HasBodies take giv
       by : (b : Bool) → (v == t) ≡ b → Goes Taken Given (if v == t then Inside else Waiting t) r
       by true e =
           subst (λ b. Goes Taken Given (if b then Inside else Waiting t) r) (sym e)
-          (looks cs outer p v
-          (subst (λ b. Goes Taken Given Inside (turned cs outer p b v t)) (sym (unequal v t true e))
-          (leaves_loop cs outer p v t (Holds on.turn_is refl))))
+          (looks Taken Given Inside cs outer p v
+          (subst (λ b. Goes Taken Given Inside (turned Taken Given Inside cs outer p b v t)) (sym (unequal v t true e))
+          (leaves_loop Taken Given Inside cs outer p v t (Holds on.turn_is refl))))
       by false e =
           let waits : IsOn Taken Given x (Waiting t) Looks p = record { called = on.called; has = on.has; stage_is = refl; turn_is = on.turn_is } in
           subst (λ b. Goes Taken Given (if b then Inside else Waiting t) r) (sym e)
-          (looks cs outer p v
-          (subst (λ b. Goes Taken Given (Waiting t) (turned cs outer p b v t)) (sym (unequal v t false e))
-          (loops cs outer p v t waits)))
+          (looks Taken Given (Waiting t) cs outer p v
+          (subst (λ b. Goes Taken Given (Waiting t) (turned Taken Given (Waiting t) cs outer p b v t)) (sym (unequal v t false e))
+          (loops Taken Given (Waiting t) cs outer p v t waits)))

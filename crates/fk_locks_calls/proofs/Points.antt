@@ -193,9 +193,9 @@ module _ (take give : ℕ) (bodies : ℕ → Code ℕ) (has : HasBodies take giv
   stays r s e other = ap (after_next r) e ∙ by (class_of s.operation) other
     where
       by : (c : Class) → (c ≡ Local → ⊥) → after_class r s c ≡ r
-      by Local no = absurd (no refl)
-      by Request no = refl
-      by Tree no = refl
+      by Local differs = absurd (differs refl)
+      by Request differs = refl
+      by Tree differs = refl
 
   pub all_stay : (n : ℕ) (r : Runner Work) (s : Step Work) → next bodies r.left ≡ Some s → (class_of s.operation ≡ Local → ⊥) → after_locals (next bodies) set n r ≡ r
   all_stay zero r s e other = refl
@@ -228,7 +228,7 @@ module _ (take give : ℕ) (bodies : ℕ → Code ℕ) (has : HasBodies take giv
       subst (Stands Taken Given stage) (sym (stays r (step_at q cs) (next_at q cs r left) (not_local q))) (Within q cs outer left call)
 
   pub will_step : {Taken Given : Type 0} {stage : Stage} (r : Runner Work) → Will Taken Given stage r → Will Taken Given stage (after r)
-  will_step r w = by w.count w.stands
+  will_step {Taken = Taken} {Given = Given} {stage = stage} r w = by w.count w.stands
     where
       by : (n : ℕ) → Stands Taken Given stage (after_locals (next bodies) set n r) → Will Taken Given stage (after r)
       by zero s = now (steps r s)

@@ -131,6 +131,6 @@ module _ (take_it give_it : ℕ) (bodies : ℕ → Code ℕ) (has : HasBodies ta
             record {
               number = becomes_number a r became ∙ k.number;
               low = k.low;
-              runs = becomes take_it give_it bodies has set x room a (turns h a at) (alone h a at) r k.asking became (next_stage h a r at there);
+              runs = becomes take_it give_it bodies has set x room (Taken h) (Given h) (Taken' h) (Given' h) (l.stage h) ((fold after l (events x actings)).stage h) a (turns h a at) (alone h a at) r k.asking became (next_stage h a r at there);
             };
       }

@@ -74,15 +74,19 @@ module _ (tables : Tables) (program : ProgramTree) (lock : HasLock tables progra
           → (t : ℕ) × (t < u) × BeginsAt lock.takes x t h
           × ((v : ℕ) → t < v → v < u → ¬ BeginsAt lock.gives x v h)
 
--- In each possible run of such a program that uses a lock fairly, at most one processor is inside at
--- each moment, and of two draws the one that was served first enters first, where both enter.
-abbrev pub ProgramsExclude : Type 0
-ProgramsExclude =
-    (tables : Tables) (program : ProgramTree) (lock : HasLock tables program)
-    → ProgramFits tables program
-    → (schedule : Schedule) (words firsts input : List ℕ) (processors x : ℕ) → processors ≤ 1024
+-- In each run of the program by possible rounds that uses a lock fairly, at most one processor is
+-- inside at each moment, and of two draws the one that was served first enters first, where both
+-- enter. The initial values of variables may be any ones.
+abbrev pub LocksExclude : (tables : Tables) (program : ProgramTree) → HasLock tables program → Type 0
+LocksExclude tables program lock =
+    (schedule : Schedule) (words firsts input : List ℕ) (processors x : ℕ) → processors ≤ 1024
     → let next = next_in tables program in
     let setting = setting_of processors words input in
     let s = program_opening tables program words firsts input processors in
     ArePossible next setting schedule s
     → UsesCallsFairly tables program lock setting schedule s x → Excludes next setting x schedule s
+
+abbrev pub ProgramsExclude : Type 0
+ProgramsExclude =
+    (tables : Tables) (program : ProgramTree) (lock : HasLock tables program)
+    → ProgramFits tables program → LocksExclude tables program lock
