@@ -145,17 +145,17 @@ module _ (tables : Tables) (program : ProgramTree) (lock : HasLock tables progra
         gives_here c = (a, asks_it, record { step = c.step; due = c.due; enters = c.enters; given = c.given_it; goes = c.goes_there ∙ sym give_body }, is_served)
 
         still_taken : (CallsTo x code_of_give a → ⊥) → Taken t h → Taken (suc t) h
-        still_taken no (u, lt, begins, none) =
+        still_taken differs (u, lt, begins, none) =
             (u, omega (arith, lt), begins, λ v low high g.
               elim (cases_lt v t) [
                 | inl lower ↦ none v low lower g
                 | inr upper ↦
                     let same : v ≡ t = omega (arith, upper, high) in
-                    no (is_give (subst (λ k. Gives k h) same g))
+                    differs (is_give (subst (λ k. Gives k h) same g))
               ])
 
         still_given : (CallsTo x code_of_take a → ⊥) → Given t h → Given (suc t) h
-        still_given no given u lt g =
+        still_given differs given u lt g =
             elim (cases_lt u t) [
               | inl lower ↦
                   let r = given u lower g in
@@ -163,7 +163,7 @@ module _ (tables : Tables) (program : ProgramTree) (lock : HasLock tables progra
                   (r.0, r.1, omega (arith, v_low), r.3)
               | inr upper ↦
                   let same : u ≡ t = omega (arith, upper, lt) in
-                  absurd (no (is_take (subst (λ k. Takes k h) same g)))
+                  absurd (differs (is_take (subst (λ k. Takes k h) same g)))
             ]
 
         given_now : CallsTo x code_of_give a → Given (suc t) h
