@@ -1,3 +1,4 @@
+pub mod Correct
 pub mod Marks
 pub mod Known
 pub mod Slots

@@ -11,7 +11,7 @@ use Rattle.fk_parse_combinators.proofs.Repeats.{Going, going_start, going_more}
 use Rattle.fk_expr.specs.Reading.{inner}
 use Rattle.fk_parse.specs.Parses.{ReadsText, SpellsProgram}
 use Rattle.fk_parse.specs.Reading.{begins_item, read_item, read_body, read_items, ended, read_text}
-use Rattle.fk_parse.proofs.Texts.{one_text}
+use Rattle.fk_parse.proofs.Texts.{reads_text, one_text}
 use Rattle.fk_locks_tokens.specs.Tokens.{lock_tokens}
 use Rattle.fk_locks_tree.specs.Items.{lock_struct, lock_take, lock_give, LockItemsFirst}
 use Rattle.fk_locks_tree.proofs.Placed.{struct_before, take_before, give_before}
@@ -70,7 +70,9 @@ read : (more : List Spelled) (items : List ItemTree) → ReadsText (numbered 0 (
 read more items reads =
     let rest = numbered 64 more in
     let going = after_give rest in
-    let one : Ok items ≡ read_text (numbered 0 (lock_tokens ++ more)) = (one_text (numbered 0 (lock_tokens ++ more))).2 (Ok items) reads in
+    let tokens = numbered 0 (lock_tokens ++ more) in
+    let only = one_text tokens in
+    let one : Ok items ≡ read_text tokens = only.2 (Ok items) reads ∙ sym (only.2 (read_text tokens) (reads_text tokens)) in
     let all : ended (after (repeated_within going.fuel begins_item item rest) (λ xs others. Ok (lock_items ++ xs, others))) ≡ Ok items =
     ap ended (sym going.goes) ∙ sym (whole (text rest)) ∙ ap read_text (sym (lock_numbered more)) ∙ sym one in
     joined (repeated_within going.fuel begins_item item rest) items all
