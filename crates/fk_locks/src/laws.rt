@@ -4,7 +4,7 @@ ghost use Rattle.fk_locks.specs.Laws.{TextsExclude};
 
 use fk_check_laws::laws::correct_programs_fit;
 use fk_locks_calls::laws::programs_exclude;
-use fk_locks_text::laws::texts_have_locks;
+use fk_locks_text::laws::{texts_are_correct, texts_have_locks};
 use fk_parse_laws::laws::texts_are_trim;
 
 /// Take a valid text that begins with the text of the lock, an input, a number of processors up to
@@ -16,6 +16,7 @@ pub fn one_inside()
 {
     // These calls are facts for the proof, and do nothing.
     texts_have_locks();
+    texts_are_correct();
     programs_exclude();
     correct_programs_fit();
     texts_are_trim();
