@@ -40,31 +40,33 @@ module _ (tables : Tables) (program : ProgramTree) (lock : HasLock tables progra
     pub goes : (step.rest true).left ≡ settled (bodies_of tables program (binding_of tables f))
 
   module _ (setting : Setting) (schedule : Schedule) (s : State Work) where
-    -- What processor h asks for in round t, and what is served: if the round has a fault, it isn't
-    -- that of h.
-    pub record ServedAt (t h : ℕ) (a : Acting Work) : Type 0 where
+    -- What processor h asks for in round t.
+    pub record AsksAt (t h : ℕ) (a : Acting Work) : Type 0 where
       pub round : Round
       pub is_round : slice_get schedule t ≡ Some round
       pub is_its : slice_get
           (asked (next_in tables program) setting round
           (run (next_in tables program) setting (take t schedule) s)) h ≡ Some a
-      pub served : (fault : Fault)
-          → (run (next_in tables program) setting (take (suc t) schedule) s).fault ≡ Some fault
-          → h ≢ fault.processor
+
+    -- Round t has no fault of processor h.
+    abbrev pub IsServedAt : (t h : ℕ) → Type 0
+    IsServedAt t h = (fault : Fault)
+        → (run (next_in tables program) setting (take (suc t) schedule) s).fault ≡ Some fault
+        → h ≢ fault.processor
 
     -- In round t a call of a function with the address of word x begins.
     abbrev pub BeginsAt : FunctionTree → (x t h : ℕ) → Type 0
-    BeginsAt f x t h = (a : Acting Work) × ServedAt t h a × Calls f x a
+    BeginsAt f x t h = (a : Acting Work) × AsksAt t h a × Calls f x a × IsServedAt t h
 
-    -- Both words begin as 0, and are words of shared data. Requests on them are only served for
-    -- operations of the two functions called with the address of the first. Each processor begins
-    -- calls of them in turn: a take only if a give came after each earlier take, and a give only if
-    -- none came after some earlier take. A call begins after the one before has returned, since the
-    -- two functions call nothing.
+    -- Both words begin as 0, and are words of shared data. Requests on them are only those of the two
+    -- functions called with the address of the first, and all of these are served. Each processor
+    -- begins calls of them in turn: a take only if a give came after each earlier take, and a give
+    -- only if none came after some earlier take. A call begins after the one before has returned,
+    -- since the two functions call nothing.
     pub record UsesCallsFairly (x : ℕ) : Type 0 where
       pub first : AreWords x opening s
       pub room : suc x < shared_words
-      pub alone : (t h : ℕ) (a : Acting Work) → ServedAt t h a
+      pub alone : (t h : ℕ) (a : Acting Work) → AsksAt t h a
           → (touch x a ≢ None) ⊎ (touch (suc x) a ≢ None) → IsOfCall x a
       pub take : (t u h : ℕ) → t < u → BeginsAt lock.takes x t h → BeginsAt lock.takes x u h
           → (v : ℕ) × (t < v) × (v < u) × BeginsAt lock.gives x v h
@@ -72,15 +74,19 @@ module _ (tables : Tables) (program : ProgramTree) (lock : HasLock tables progra
           → (t : ℕ) × (t < u) × BeginsAt lock.takes x t h
           × ((v : ℕ) → t < v → v < u → ¬ BeginsAt lock.gives x v h)
 
--- In each possible run of such a program that uses a lock fairly, at most one processor is inside at
--- each moment, and of two draws the one that was served first enters first, where both enter.
-abbrev pub ProgramsExclude : Type 0
-ProgramsExclude =
-    (tables : Tables) (program : ProgramTree) (lock : HasLock tables program)
-    → ProgramFits tables program
-    → (schedule : Schedule) (words firsts input : List ℕ) (processors x : ℕ) → processors ≤ 1024
+-- In each run of the program by possible rounds that uses a lock fairly, at most one processor is
+-- inside at each moment, and of two draws the one that was served first enters first, where both
+-- enter. The initial values of variables may be any ones.
+abbrev pub LocksExclude : (tables : Tables) (program : ProgramTree) → HasLock tables program → Type 0
+LocksExclude tables program lock =
+    (schedule : Schedule) (words firsts input : List ℕ) (processors x : ℕ) → processors ≤ 1024
     → let next = next_in tables program in
     let setting = setting_of processors words input in
     let s = program_opening tables program words firsts input processors in
     ArePossible next setting schedule s
     → UsesCallsFairly tables program lock setting schedule s x → Excludes next setting x schedule s
+
+abbrev pub ProgramsExclude : Type 0
+ProgramsExclude =
+    (tables : Tables) (program : ProgramTree) (lock : HasLock tables program)
+    → ProgramFits tables program → LocksExclude tables program lock

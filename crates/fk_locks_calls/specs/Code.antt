@@ -1,5 +1,5 @@
 -- The code of the lock's functions, and programs that begin with these functions.
-use Rattle.std.specs.Prelude.{◌≡◌, ◌≢◌, ℕ, ◌+◌, List, ◌∷◌, length, codes}
+use Rattle.std.specs.Prelude.{◌≡◌, ◌≢◌, ℕ, ◌+◌, true, false, List, ◌∷◌, length, codes}
 use Rattle.fk_num.specs.declared.operator.Op.TheVariants.{Add, Ne}
 use Rattle.fk_syntax.specs.declared.place.Place.{Place}
 use Rattle.fk_syntax.specs.Program.{FunctionTree, ProgramTree}

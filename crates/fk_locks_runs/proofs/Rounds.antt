@@ -33,7 +33,7 @@ rounds_use_locks W next set round s x l are no_fault of =
 module _ {W : Type 0} (next : W → Option (Step W)) (set : Setting) (x : ℕ) where
   tells : (schedule : Schedule) (s : State W) (l : Lock) → AreWords x l s → IsUsed next set x schedule s → Tells next set x schedule s l
   tells [] s l are used = tt
-  tells (round ∷ schedule) s l are used no_fault =
+  tells (round ∷ schedule) s l are used = λ no_fault.
       let uses = rounds_use_locks W next set round s x l are no_fault used.0 in
       (uses, tells schedule (result next set round s) (fold after l (events x (asked next set round s))) uses.words used.1)
 
