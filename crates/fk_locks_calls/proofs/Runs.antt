@@ -30,7 +30,7 @@ use Rattle.fk_locks_calls.proofs.Round.{Standing, Stays, fair, of_lock, stands_t
 use Rattle.fk_locks_calls.proofs.Histories.{GoesOn, begins_at, fair_by, goes_on, history_more, run_more, used_by}
 
 -- the two codes differ by their first sites
-first_site : Code ℕ → ℕ
+abbrev first_site : Code ℕ → ℕ
 first_site (perform n op rest) = n
 first_site code = 0
 
