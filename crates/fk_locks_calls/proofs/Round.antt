@@ -10,7 +10,7 @@ use Rattle.fk_meaning.specs.Round.{Step, Runner, State, Acting, result}
 use Rattle.fk_meaning.specs.Touch.{last_of}
 use Rattle.fk_meaning.specs.Next.{Work, next}
 use Rattle.fk_lockstep.proofs.Moves.{answer_number}
-use Rattle.fk_tickets.specs.Lock.{Draw, Look, Give, Lock, Stage, Outside, Waiting, Inside, after, event, looked}
+use Rattle.fk_tickets.specs.Lock.{Draw, Look, Give, Lock, MayDo, Stage, Outside, Waiting, Inside, after, event, looked}
 use Rattle.fk_tickets.proofs.Counts.{its_stage}
 use Rattle.fk_locks_runs.specs.Locks.{AreOfLock, AreWords, UsesLock, asked, events, told_by}
 use Rattle.fk_locks_runs.proofs.Rounds.{rounds_use_locks}
@@ -71,7 +71,8 @@ module _ (take_it give_it : ℕ) (bodies : ℕ → Code ℕ) (has : HasBodies ta
         (λ h a at.
         let k = own_acts h a at in
         let low = (acted_at h a at).low in
-        (omega (arith, low), λ act is. k.may act (sym (act_is x k.kind a k.accesses) ∙ is)))
+        let here : h ≡ 0 + h = omega arith in
+        (omega (arith, low), λ act is. subst (λ i. MayDo act (l.stage i)) here (k.may act (sym (act_is x k.kind a k.accesses) ∙ is))))
 
     module _ (no_fault : (result (next bodies) set round s).fault ≡ None) (Taken' Given' : ℕ → Type 0)
         (turns : (h : ℕ) (a : Acting Work) → slice_get actings h ≡ Some a → Turns x (Taken h) (Given h) (Taken' h) (Given' h) a) where
