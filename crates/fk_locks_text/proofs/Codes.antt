@@ -160,9 +160,9 @@ module _ (T : Tables) (all : List FunctionTree) (mpadd_bound : (note T 24).bindi
   take_is =
       ap (λ (framed : Option Region). numbered 0 (body_of T functions (inside (is_some framed)) true take_body)) unframed
       ∙ ap (λ code. numbered 0 code) (private_is T functions (name_at 22 2 50 (codes "t")) 2 1 ticket_bound refl t_home
-        (λ location. addressed T functions location (value T functions take_draw (assigned T functions location (plain o.DropLast (loop false))))))
+      (λ location. addressed T functions location (value T functions take_draw (assigned T functions location (plain o.DropLast (loop false))))))
       ∙ ap (λ code. numbered 0 code) (added_is T functions 24 2 54 (name_at 27 2 61 (codes "l")) 1 0 (spot_at 25 2 59) (spot_at 26 2 60) (spot_at 28 2 62) (spot_at 31 2 70) (name_at 29 2 64 (codes "next"))
-        (λ location. valued T functions location (kept (loop false))) mpadd_bound l_bound refl l_home next_bound)
+      (λ location. valued T functions location (kept (loop false))) mpadd_bound l_bound refl l_home next_bound)
       ∙ ap (λ rest. numbered 0 (add_coded 0 (at 2 62) (at 2 54) (kept rest))) (loop_is T functions test_l test_now test_t l_home t_home kind split agree (inside false) (ended false))
       ∙ take_numbered
 
@@ -178,6 +178,6 @@ module _ (T : Tables) (all : List FunctionTree) (mpadd_bound : (note T 53).bindi
   give_is =
       ap (λ (framed : Option Region). numbered 18 (body_of T give_functions (give_inside (is_some framed)) true give_body)) unframed
       ∙ ap (λ code. numbered 18 code) (added_is T give_functions 53 3 38 (name_at 56 3 45 (codes "l")) 4 1 (spot_at 54 3 43) (spot_at 55 3 44) (spot_at 57 3 46) (spot_at 60 3 53) (name_at 58 3 48 (codes "now"))
-        (λ location. valued T give_functions location (dropped T give_functions 54 end_coded)) mpadd_bound l_bound refl l_home now_bound)
+      (λ location. valued T give_functions location (dropped T give_functions 54 end_coded)) mpadd_bound l_bound refl l_home now_bound)
       ∙ ap (λ (k : Kind). numbered 18 (add_coded 1 (at 3 46) (at 3 38) (if k.words == 0 then end_coded else plain o.DropLast end_coded))) kind
       ∙ give_numbered

@@ -29,7 +29,7 @@ use Rattle.fk_types_name_rules.proofs.ListLemmas.{at_some}
 use Rattle.fk_types_judgments.specs.Names.{Env, Meant, Kept, HasDeclaredType, IsDeclared, predeclared_meant}
 use Rattle.fk_types_judgments.specs.Term.{Term, Terms, Use, Through, Address, Call, Number, no_terms, also}
 use Rattle.fk_types_judgments.specs.Typing.{type_of, name_type, value_in, struct_at, member_type, computed, call_type, parameters_of, does_fit, operand_in, either_value}
-use Rattle.fk_types_obligations.specs.Pieces.{pieces}
+use Rattle.fk_types_obligations.specs.Pieces.{pieces, Parameter}
 use Rattle.fk_types_references.specs.References.{ReferenceTree, Name, Member}
 use Rattle.fk_types_rules.specs.Bound.{IsBound, Refers, pieces_references, token_of}
 use Rattle.fk_types_rules.specs.Bound as b
@@ -38,7 +38,6 @@ use Rattle.fk_meaning_forms.specs.Tables.{Tables, note}
 use Rattle.fk_check_laws.specs.Correct.{IsCorrect}
 use Rattle.fk_check_laws.proofs.Notes.{tables, among, binding_is}
 use Rattle.fk_check_laws.proofs.Typed.{Unbroken}
-use Rattle.fk_check_laws.proofs.Named.{right_at}
 use Rattle.fk_locks_tree.specs.Items.{name_at, spot_at, declares, lock_struct, lock_take, lock_give, take_parameter, take_ticket, give_parameter}
 use Rattle.fk_locks_text.proofs.Marks.{EachBelow, below, differ, take_mpadd, take_l, test_l, test_t, give_mpadd, give_l, lock_marks, take_l_is, test_l_is, test_t_is, give_l_is, take_mpadd_is, give_mpadd_is}
 
@@ -138,23 +137,24 @@ module _ (others : List ItemTree) (end : Place) (count : ℕ) (facts : Facts) (v
 
   -- ---- the types of names and members
 
-  is_l : (name : Named) (number : ℕ) (x : DeclaredTree) → Means program name.at (m.Declared number) → slice_get (declarations program) number ≡ Some (Variable x) → type_declared S x ≡ Some pointer
-      → E.meant name ≡ Kept (Some pointer)
-  is_l name number x means here spelled =
+  is_l : (name : Named) (number piece : ℕ) (x : DeclaredTree) → Means program name.at (m.Declared number) → slice_get (declarations program) number ≡ Some (Variable x)
+      → slice_get (pieces program) piece ≡ Some (Parameter x) → type_declared S x ≡ Some pointer → E.meant name ≡ Kept (Some pointer)
+  is_l name number piece x means here stands spelled =
+      let unbroken : Unbroken (DeclarationBreaks E.structs x) = λ place rule broken. valid.known.types.kept place rule (inr (piece, Parameter x, stands, inl broken)) in
       let meant = valid.known.types.right.meant name (m.Declared number) means in
       let same : Variable x ≡ meant.0 = same_Some (Variable x) meant.0 (sym here ∙ meant.1) in
       let declared : IsDeclared S (Variable x) (E.meant name) = subst (λ d. IsDeclared S d (E.meant name)) (sym same) meant.2 in
       kept_type S x pointer (E.meant name) declared spelled
-      (subst (λ structs. Unbroken (DeclarationBreaks structs x)) same_structs (right_at program facts valid number (Variable x) here))
+      (subst (λ structs. Unbroken (DeclarationBreaks structs x)) same_structs unbroken)
 
   take_l_is_kept : E.meant take_l ≡ Kept (Some pointer)
-  take_l_is_kept = is_l take_l 1 take_parameter take_l_means refl refl
+  take_l_is_kept = is_l take_l 1 1 take_parameter take_l_means refl refl refl
 
   test_l_is_kept : E.meant test_l ≡ Kept (Some pointer)
-  test_l_is_kept = is_l test_l 1 take_parameter test_l_means refl refl
+  test_l_is_kept = is_l test_l 1 1 take_parameter test_l_means refl refl refl
 
   give_l_is_kept : E.meant give_l ≡ Kept (Some pointer)
-  give_l_is_kept = is_l give_l 4 give_parameter give_l_means refl refl
+  give_l_is_kept = is_l give_l 4 5 give_parameter give_l_means refl refl refl
 
   first_struct : slice_get E.structs 0 ≡ Some lock_tree
   first_struct = ap (λ structs. slice_get structs 0) same_structs

@@ -8,7 +8,6 @@ use Rattle.fk_meaning_forms.specs.declared.tables.Home.TheVariants as h
 use Rattle.fk_meaning_forms.specs.declared.tables.Slot.{Slot}
 use Rattle.fk_meaning_forms.specs.declared.tables.Region.{Region}
 use Rattle.fk_meaning_forms.specs.Tables.{Tables, slot, frame_in, frame_at}
-use Rattle.fk_layout_slots.specs.declared.taken.Taken.{Taken}
 use Rattle.fk_layout_slots.specs.Told.{Told, splits_at}
 use Rattle.fk_layout_slots.specs.Places.{none_taken, no_slot, slot_in, behind_private, behind_parameter, behind_variable}
 use Rattle.fk_layout_slots.specs.Slots.{item_slots, items_slots, slots_of, behind_item}
@@ -32,25 +31,23 @@ private_word i = record { home = h.Private; index = i }
 -- ---- slots
 
 module _ (told : Told) where
-  take_slots : (file : Taken) → item_slots told file (FunctionItem lock_take) ≡ no_slot ∷ private_word 0 ∷ private_word 1 ∷ []
+  take_slots : (file : _) → item_slots told file (FunctionItem lock_take) ≡ no_slot ∷ private_word 0 ∷ private_word 1 ∷ []
   unfolding slot_in behind_private behind_parameter behind_variable
   take_slots file = ap (λ (l : List Slot). no_slot ∷ private_word 0 ∷ private_word 1 ∷ (l ++ [])) (same_if (splits_at told 34) [])
 
-  give_slots : (file : Taken) → item_slots told file (FunctionItem lock_give) ≡ no_slot ∷ private_word 0 ∷ []
+  give_slots : (file : _) → item_slots told file (FunctionItem lock_give) ≡ no_slot ∷ private_word 0 ∷ []
   unfolding slot_in behind_private behind_parameter behind_variable
   give_slots file = refl
 
-  abbrev after_take : Taken
-  after_take = behind_item told none_taken (FunctionItem lock_take)
-
-  abbrev after_give : Taken
-  after_give = behind_item told after_take (FunctionItem lock_give)
+  -- those of the other items
+  abbrev rest_of : List ItemTree → List Slot
+  rest_of others = items_slots told (behind_item told (behind_item told none_taken (FunctionItem lock_take)) (FunctionItem lock_give)) others
 
   slots_are : (others : List ItemTree) → slots_of told (lock_struct ∷ FunctionItem lock_take ∷ FunctionItem lock_give ∷ others)
-      ≡ no_slot ∷ private_word 0 ∷ private_word 1 ∷ no_slot ∷ private_word 0 ∷ items_slots told after_give others
+      ≡ no_slot ∷ private_word 0 ∷ private_word 1 ∷ no_slot ∷ private_word 0 ∷ rest_of others
   slots_are others =
-      ap (λ (l : List Slot). l ++ (item_slots told after_take (FunctionItem lock_give) ++ items_slots told after_give others)) (take_slots none_taken)
-      ∙ ap (λ (l : List Slot). no_slot ∷ private_word 0 ∷ private_word 1 ∷ (l ++ items_slots told after_give others)) (give_slots after_take)
+      ap (λ (l : List Slot). l ++ (item_slots told (behind_item told none_taken (FunctionItem lock_take)) (FunctionItem lock_give) ++ rest_of others)) (take_slots none_taken)
+      ∙ ap (λ (l : List Slot). no_slot ∷ private_word 0 ∷ private_word 1 ∷ (l ++ rest_of others)) (give_slots (behind_item told none_taken (FunctionItem lock_take)))
 
   -- ---- group frames
 
@@ -88,7 +85,7 @@ module _ (others : List ItemTree) (end : Place) (count : ℕ) (facts : Facts) wh
   T = tables_by (lock_program others end count) facts
 
   abbrev all_slots : List Slot
-  all_slots = no_slot ∷ private_word 0 ∷ private_word 1 ∷ no_slot ∷ private_word 0 ∷ items_slots (told_by facts) (after_give (told_by facts)) others
+  all_slots = no_slot ∷ private_word 0 ∷ private_word 1 ∷ no_slot ∷ private_word 0 ∷ rest_of (told_by facts) others
 
   abbrev with_slots : List Slot → Tables
   with_slots slots = record T { slots = slots }

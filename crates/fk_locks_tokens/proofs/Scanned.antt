@@ -1,11 +1,11 @@
 -- The tokens of the first pieces of a text, computed piece by piece.
-use Rattle.std.proofs.Common.{◌≡◌, ℕ, zero, suc, ◌<◌, Option, Some, None, List, [], ◌∷◌, ◌++◌, length, take, drop, refl, sym, ap, subst, ◌∙◌, arith}
+use Rattle.std.proofs.Common.{◌≡◌, ℕ, zero, suc, Option, Some, None, List, [], ◌∷◌, ◌++◌, take, drop, refl, sym, ap, subst, ◌∙◌}
 use Rattle.fk_lex.specs.declared.position.Position.{Position}
 use Rattle.fk_lex.specs.declared.step.Step.{Step}
 use Rattle.fk_lex.specs.declared.step.Step.TheVariants.{Gap, Token, Fault}
 use Rattle.fk_lex.specs.Moves.{position_of, after, place_of}
 use Rattle.fk_lex.specs.Positions.{place_behind}
-use Rattle.fk_lex.specs.Reading.{Spelled, Cuts, IsPiece, tokens_in, Tokens}
+use Rattle.fk_lex.specs.Reading.{Spelled, Cuts, IsPiece, tokens_in}
 use Rattle.fk_lex.specs.Sizes.{size_of}
 use Rattle.fk_lex.proofs.Determined.{next_step_once}
 use Rattle.fk_lex.proofs.Lines.{position_more, place_is}
