@@ -1,6 +1,6 @@
 -- One round: what the processors of a program do with a lock in it, and where they stand after it.
-use Rattle.std.proofs.Common.{◌≡◌, ◌≢◌, ◌+◌, ◌<◌, ◌≤◌, ◌⊎◌, ◌==◌, ℕ, zero, suc, Bool, true, false, List, [], ◌∷◌, Option, Some, None, inl, inr, arith, ap, ap₂, ◌∙◌, refl, sym, subst}
-use Rattle.std.specs.Prelude.{fold, slice_get, take, if◌then◌else◌}
+use Rattle.std.proofs.Common.{◌≡◌, ◌<◌, ℕ, zero, suc, Bool, true, false, List, Option, Some, None, inl, inr, arith, ap, ap₂, ◌∙◌, refl, sym, subst}
+use Rattle.std.specs.Prelude.{take}
 use Rattle.std.proofs.lemmas.Bool.{cases_eq}
 use Rattle.fk_meaning_operation.specs.declared.operation.Operation.{Operation}
 use Rattle.fk_meaning_operation.specs.declared.operation.Operation.TheVariants.{Enter, Combine, Read}
@@ -12,13 +12,13 @@ use Rattle.fk_meaning_store.specs.Store.{address_of, shared_words}
 use Rattle.fk_meaning_forms.specs.Code.{Code}
 use Rattle.fk_meaning.specs.Processor.{Processor, Setting, values, last}
 use Rattle.fk_meaning.specs.Request.{entered, with_answer}
-use Rattle.fk_meaning.specs.Round.{Step, Runner, Acting, after_locals, begin, do_local, local_phase, taking}
+use Rattle.fk_meaning.specs.Round.{Step, Runner, Acting, after_locals, do_local, local_phase, taking}
 use Rattle.fk_meaning.specs.Touch.{operation_due, touch, touch_of}
 use Rattle.fk_meaning.specs.Next.{Work, going, next}
-use Rattle.fk_tickets.specs.Lock.{Act, Draw, Look, Give, MayDo, Stage, Outside, Waiting, Inside, looked}
+use Rattle.fk_tickets.specs.Lock.{Act, Draw, Look, Give, MayDo, Stage, Outside, Waiting, looked}
 use Rattle.fk_locks_calls.specs.Code.{code_of_take, code_of_give}
 use Rattle.fk_locks_calls.proofs.Outer.{AllOuter, CallsOf, HasBodies, Leads, On, Outer, OuterWork, Takes, Gives, Stepped, is_stepped}
-use Rattle.fk_locks_calls.proofs.Points.{Point, TakeChecks, TakeChecksShared, Draws, LookChecks, Looks, GiveChecks, GiveChecksShared, Adds, Idle, Free, Holds, InCall, IsOn, This, Other, Stands, Away, Within, Will, Turn, all_stay, asks_stands, code_at, is_take, left_after, low_site, next_at, now, operation_at, requests, site_at, stage_at, step_at, stays, will_step, will_steps}
+use Rattle.fk_locks_calls.proofs.Points.{Point, TakeChecks, TakeChecksShared, Draws, LookChecks, Looks, GiveChecks, GiveChecksShared, Adds, Idle, Free, Holds, InCall, IsOn, This, Other, Stands, Away, Within, Turn, asks_stands, code_at, is_take, left_after, next_at, now, operation_at, requests, step_at, will_step, will_steps}
 use Rattle.fk_locks_calls.proofs.Moves.{Goes, drawn, given, give_begins, give_checked, give_checked_shared, look_checked, looked_on, other_answered, other_give_begins, other_take_begins, take_begins, take_checked, take_checked_shared}
 use Rattle.fk_locks_calls.proofs.Became.{Becomes, Same, Done, Does, Answered, Steps, NotLocal, acted}
 use Rattle.fk_locks_calls.proofs.Touching.{Accesses, Alone, Kind, Nothing, Drawing, Looking, Giving, kind_act, multi_here, multi_other, read_here, read_other, untouched}
