@@ -1,25 +1,22 @@
 -- What becomes of a processor in a round.
-use Rattle.std.proofs.Common.{◌≡◌, ◌+◌, ◌<◌, ◌⊎◌, ℕ, zero, suc, Bool, true, false, List, [], ◌∷◌, map, Option, Some, None, inl, inr, arith, ap, ◌∙◌, refl, sym, subst}
-use Rattle.std.specs.Prelude.{slice_get, nat_lt, if◌then◌else◌, ◌==◌}
+use Rattle.std.proofs.Common.{◌≡◌, ℕ, zero, suc, Bool, true, false, List, [], ◌∷◌, Option, Some, None, ap, ◌∙◌, refl, sym, subst}
+use Rattle.std.specs.Prelude.{slice_get, if◌then◌else◌, ◌==◌}
 use Rattle.fk_space.specs.Space.{Space, frame, block}
 use Rattle.fk_tree.specs.Tree as t
 use Rattle.fk_meaning_operation.specs.declared.operation.Operation.{Operation}
 use Rattle.fk_meaning_operation.specs.declared.operation.Operation.TheVariants as o
-use Rattle.fk_meaning_operation.specs.declared.operation.Variable.{Variable}
-use Rattle.fk_meaning_operation.specs.declared.operation.Variable.TheVariants as v
 use Rattle.fk_meaning_operation.specs.declared.operation.SplitKind.{SplitKind}
 use Rattle.fk_meaning_operation.specs.declared.kinds.Class.{Class}
 use Rattle.fk_meaning_operation.specs.declared.kinds.Class.TheVariants.{Local, Request, Tree}
 use Rattle.fk_meaning_operation.specs.Kinds.{class_of}
-use Rattle.fk_meaning_store.specs.Store.{Store, private_words, private_address}
+use Rattle.fk_meaning_store.specs.Store.{Store}
 use Rattle.fk_meaning_store.specs.Serve.{Answer, Served, Faults, serve, words_of}
-use Rattle.fk_meaning.specs.Processor.{Level, Call, Processor, Setting, values, last, drop_last, in_place, enter_level, to_outer, leave_level}
-use Rattle.fk_meaning.specs.Local.{local, taken, stored, unframed, to_caller}
+use Rattle.fk_meaning.specs.Processor.{Level, Processor, Setting, values, last, drop_last, in_place, enter_level, to_outer, leave_level}
 use Rattle.fk_meaning.specs.Request.{request, with_answer}
-use Rattle.fk_meaning.specs.Group.{part, divided, start_level, is_taken, framed, allotted, with_block, with_size, stays, does, has_room, goes_onward}
-use Rattle.fk_meaning.specs.Round.{Step, Runner, Fault, State, Round, Acting, Phase, Passes, Breaks, Phases, done, answered, do_request, request_phase, after_phase, all_requests, all_changes, settled_by, settled, tree_phase, local_phase, do_local, begin, begin_all, all_locals, asking, after_locals, after_one, taking, result}
+use Rattle.fk_meaning.specs.Group.{part, divided, start_level, is_taken, framed, allotted, with_size, stays, does, has_room, goes_onward}
+use Rattle.fk_meaning.specs.Round.{Step, Runner, State, Round, Acting, Phase, Passes, Breaks, Phases, done, answered, do_request, request_phase, after_phase, all_requests, all_changes, settled_by, settled, tree_phase, local_phase, do_local, begin, asking, after_locals, after_one, taking, result}
 use Rattle.fk_meaning.proofs.Stopped.{phase_fault}
-use Rattle.fk_lockstep.proofs.Moves.{local_number, answer_number}
+use Rattle.fk_lockstep.proofs.Moves.{local_number}
 
 -- ---- steps of the tree keep the number of a processor
 

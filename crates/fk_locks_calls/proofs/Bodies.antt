@@ -1,7 +1,7 @@
 -- The bodies of the functions of a program that begins with those of the lock.
-use Rattle.std.proofs.Common.{◌≡◌, ◌≤◌, ◌+◌, ◌⊎◌, ℕ, suc, Bool, true, false, List, [], ◌∷◌, length, Option, Some, None, inl, inr, arith, ap, ap₂, ◌∙◌, refl, sym, subst}
+use Rattle.std.proofs.Common.{◌≡◌, ◌≤◌, ◌+◌, ◌⊎◌, ℕ, suc, Bool, true, false, List, [], ◌∷◌, length, inl, inr, arith, ap, ◌∙◌, refl, sym, subst}
 use Rattle.std.specs.Prelude.{◌==◌, if◌then◌else◌}
-use Rattle.std.proofs.lemmas.Bool.{cases_eq, eq-eqb, ne_eqb}
+use Rattle.std.proofs.lemmas.Bool.{eq-eqb, ne_eqb}
 use Rattle.fk_syntax.specs.declared.place.Place.{Place}
 use Rattle.fk_syntax.specs.Program.{FunctionTree, ProgramTree}
 use Rattle.fk_meaning_forms.specs.Code.{Code, done, perform, choose, while, until, turn, again, quit, break, continue, call, ends, size, numbered}
@@ -9,7 +9,7 @@ use Rattle.fk_meaning_forms.specs.Expressions.{Signature, framed, parameters}
 use Rattle.fk_meaning_forms.specs.Tables.{Tables, frame_at}
 use Rattle.fk_meaning_forms.specs.Program.{binding_of, bodies_of, body_in, code_of, functions_of, signature_in, signature_of}
 use Rattle.fk_core_flat.specs.Fitting.{FunctionsFit, ProgramFits, is_defined}
-use Rattle.fk_locks_calls.specs.Code.{HasLock, IsCalledWithOne, code_of_take, code_of_give}
+use Rattle.fk_locks_calls.specs.Code.{HasLock, code_of_take, code_of_give}
 use Rattle.fk_locks_calls.proofs.Outer.{HasBodies, Outer}
 use Rattle.fk_locks_calls.proofs.Forms.{function_fine, outer_numbered}
 

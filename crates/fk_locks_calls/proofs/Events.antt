@@ -1,13 +1,10 @@
 -- The events of a round, at most one for each processor.
-use Rattle.std.proofs.Common.{◌≡◌, ◌+◌, ◌<◌, ◌==◌, ℕ, zero, suc, Bool, true, false, List, [], ◌∷◌, ◌++◌, Option, Some, None, arith, ap, ◌∙◌, refl, sym, subst}
-use Rattle.std.specs.Prelude.{fold, slice_get, take, if◌then◌else◌}
-use Rattle.std.proofs.lemmas.Bool.{ne_eqb, eq-eqb}
-use Rattle.std.proofs.lemmas.List.Sums.{fold-append}
-use Rattle.fk_meaning_store.specs.declared.request.Request.{Request}
+use Rattle.std.proofs.Common.{◌≡◌, ◌+◌, ◌<◌, ℕ, zero, suc, List, [], ◌∷◌, ◌++◌, Option, Some, None, arith, ap, ◌∙◌, refl, sym, subst}
+use Rattle.std.specs.Prelude.{fold, slice_get, take}
 use Rattle.fk_meaning.specs.Round.{Acting}
 use Rattle.fk_meaning.specs.Touch.{touch}
-use Rattle.fk_tickets.specs.Lock.{Act, Draw, Look, Give, Event, Stage, Lock, MayDo, IsFair, after, after_act, at, event, opening, with_stage, Waiting, Outside, looked}
-use Rattle.fk_tickets.proofs.Counts.{its_stage, other_stage}
+use Rattle.fk_tickets.specs.Lock.{Act, Draw, Look, Give, Event, Lock, MayDo, IsFair, after, at, event, opening, Waiting, Outside, looked}
+use Rattle.fk_tickets.proofs.Counts.{other_stage}
 use Rattle.fk_locks_runs.specs.Locks.{AreOfLock, IsOfNext, IsOfNow, act_by, events, told_by}
 
 -- ---- fair histories, from any lock on

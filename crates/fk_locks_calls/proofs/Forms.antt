@@ -1,5 +1,5 @@
 -- The code of expressions, statements and functions calls the lock's functions with one value, and with nothing at the beginning of the call.
-use Rattle.std.proofs.Common.{◌≡◌, ◌≤◌, ◌⊎◌, ◌+◌, ℕ, suc, Bool, true, false, true≢false, List, [], ◌∷◌, length, Option, Some, None, arith, ap, refl, sym, subst}
+use Rattle.std.proofs.Common.{◌≡◌, ◌≤◌, ◌⊎◌, ◌+◌, ℕ, suc, Bool, true, false, true≢false, List, [], ◌∷◌, length, Option, Some, None, arith, ap, sym}
 use Rattle.std.specs.Prelude.{is_some, if◌then◌else◌}
 use Rattle.fk_syntax.specs.declared.place.Place.{Place}
 use Rattle.fk_syntax.specs.declared.place.Spot.{Spot}
@@ -19,7 +19,7 @@ use Rattle.fk_meaning_forms.specs.Expressions.{Coded, nowhere, plain, agreed, Si
 use Rattle.fk_meaning_forms.specs.Statements.{Inside, is_nothing, used_or, value_or, part_frame, leaving, tested, looping, left_by, executed, all_executed, end_of, body_of}
 use Rattle.fk_meaning_forms.specs.Program.{is_main, signature_in, code_of}
 use Rattle.fk_meaning.specs.Calls.{TakesEnough}
-use Rattle.fk_meaning.proofs.Kept.{is_predeclared, entered, IsKept, Keeps, either, agrees, values_kept, uses, uses_or, gives_or, declares, part_frames}
+use Rattle.fk_meaning.proofs.Kept.{is_predeclared, entered, IsKept, either, agrees, values_kept, uses, uses_or, gives_or, declares, part_frames}
 use Rattle.fk_core_flat.specs.Fitting.{NameFits, Takes, OptionFits, OptionConditionFits, StatementFits, StatementsFit, BodyFits}
 use Rattle.fk_locks_calls.proofs.Outer.{CallFits, Outer}
 

@@ -1,5 +1,5 @@
 -- Runs round by round.
-use Rattle.std.proofs.Common.{◌≡◌, ◌+◌, ◌<◌, ◌&&◌, ℕ, zero, suc, Bool, true, false, true≢false, List, [], ◌∷◌, ◌++◌, Option, Some, None, inl, inr, arith, ap, ◌∙◌, refl, sym, subst}
+use Rattle.std.proofs.Common.{◌≡◌, ◌+◌, ◌<◌, ◌&&◌, ℕ, zero, suc, Bool, true, false, true≢false, [], ◌∷◌, Option, Some, None, arith, ap, ◌∙◌, refl, sym, subst}
 use Rattle.std.specs.Prelude.{fold, is_none, slice_get, take}
 use Rattle.std.proofs.lemmas.List.Sums.{fold-append}
 use Rattle.fk_meaning.specs.Processor.{Setting}

@@ -1,6 +1,6 @@
 -- One round: what the processors of a program do with a lock in it, and where they stand after it.
-use Rattle.std.proofs.Common.{◌≡◌, ◌≢◌, ◌+◌, ◌<◌, ◌≤◌, ◌⊎◌, ◌==◌, ℕ, zero, suc, Bool, true, false, List, [], ◌∷◌, Option, Some, None, inl, inr, arith, ap, ap₂, ◌∙◌, refl, sym, subst}
-use Rattle.std.specs.Prelude.{fold, slice_get, take, if◌then◌else◌}
+use Rattle.std.proofs.Common.{◌≡◌, ◌<◌, ℕ, zero, suc, Bool, true, false, List, Option, Some, None, inl, inr, arith, ap, ap₂, ◌∙◌, refl, sym, subst}
+use Rattle.std.specs.Prelude.{take}
 use Rattle.std.proofs.lemmas.Bool.{cases_eq}
 use Rattle.fk_meaning_operation.specs.declared.operation.Operation.{Operation}
 use Rattle.fk_meaning_operation.specs.declared.operation.Operation.TheVariants.{Enter, Combine, Read}
@@ -12,13 +12,13 @@ use Rattle.fk_meaning_store.specs.Store.{address_of, shared_words}
 use Rattle.fk_meaning_forms.specs.Code.{Code}
 use Rattle.fk_meaning.specs.Processor.{Processor, Setting, values, last}
 use Rattle.fk_meaning.specs.Request.{entered, with_answer}
-use Rattle.fk_meaning.specs.Round.{Step, Runner, Acting, after_locals, begin, do_local, local_phase, taking}
+use Rattle.fk_meaning.specs.Round.{Step, Runner, Acting, after_locals, do_local, local_phase, taking}
 use Rattle.fk_meaning.specs.Touch.{operation_due, touch, touch_of}
 use Rattle.fk_meaning.specs.Next.{Work, going, next}
-use Rattle.fk_tickets.specs.Lock.{Act, Draw, Look, Give, MayDo, Stage, Outside, Waiting, Inside, looked}
+use Rattle.fk_tickets.specs.Lock.{Act, Draw, Look, Give, MayDo, Stage, Outside, Waiting, looked}
 use Rattle.fk_locks_calls.specs.Code.{code_of_take, code_of_give}
 use Rattle.fk_locks_calls.proofs.Outer.{AllOuter, CallsOf, HasBodies, Leads, On, Outer, OuterWork, Takes, Gives, Stepped, is_stepped}
-use Rattle.fk_locks_calls.proofs.Points.{Point, TakeChecks, TakeChecksShared, Draws, LookChecks, Looks, GiveChecks, GiveChecksShared, Adds, Idle, Free, Holds, InCall, IsOn, This, Other, Stands, Away, Within, Will, Turn, all_stay, asks_stands, code_at, is_take, left_after, low_site, next_at, now, operation_at, requests, site_at, stage_at, step_at, stays, will_step, will_steps}
+use Rattle.fk_locks_calls.proofs.Points.{Point, TakeChecks, TakeChecksShared, Draws, LookChecks, Looks, GiveChecks, GiveChecksShared, Adds, Idle, Free, Holds, InCall, IsOn, This, Other, Stands, Away, Within, Turn, asks_stands, code_at, is_take, left_after, next_at, now, operation_at, requests, step_at, will_step, will_steps}
 use Rattle.fk_locks_calls.proofs.Moves.{Goes, drawn, given, give_begins, give_checked, give_checked_shared, look_checked, looked_on, other_answered, other_give_begins, other_take_begins, take_begins, take_checked, take_checked_shared}
 use Rattle.fk_locks_calls.proofs.Became.{Becomes, Same, Done, Does, Answered, Steps, NotLocal, acted}
 use Rattle.fk_locks_calls.proofs.Touching.{Accesses, Alone, Kind, Nothing, Drawing, Looking, Giving, kind_act, multi_here, multi_other, read_here, read_other, untouched}
@@ -39,10 +39,10 @@ pub record Turns (x : ℕ) (Taken Given Taken' Given' : Type 0) (a : Acting Work
   pub gives : CallsTo x code_of_give a → Taken × Given'
 
 module _ (take give : ℕ) (bodies : ℕ → Code ℕ) (has : HasBodies take give bodies) (set : Setting) (x : ℕ) (room : suc x < shared_words) where
-  abbrev Runs : (Taken Given : Type 0) → Stage → Runner Work → Type 0
+  abbrev pub Runs : (Taken Given : Type 0) → Stage → Runner Work → Type 0
   Runs Taken Given stage r = Goes take give bodies has set x room Taken Given stage r
 
-  abbrev Stood : (Taken Given : Type 0) → Stage → Runner Work → Type 0
+  abbrev pub Stood : (Taken Given : Type 0) → Stage → Runner Work → Type 0
   Stood Taken Given stage r = Stands take give bodies has set x Taken Given stage r
 
   -- ---- what a processor asks for after its local operations
@@ -93,6 +93,15 @@ module _ (take give : ℕ) (bodies : ℕ → Code ℕ) (has : HasBodies take giv
   nothing : {stage : Stage} (a : Acting Work) → Accesses x Nothing a → Acts stage a
   nothing a h = record { kind = Nothing; accesses = h; may = λ act e. let bad : None ≡ Some act = e in absurd (cc) }
 
+  no_act : {A : Type 0} (act : Act) → None ≡ Some act → A
+  no_act act e = absurd (cc)
+
+  abbrev kind_at : Point → Kind
+  kind_at Draws = Drawing
+  kind_at Looks = Looking
+  kind_at Adds = Giving
+  kind_at q = Nothing
+
   -- a step whose operation is known
   by_operation : (y : ℕ) (a : Acting Work) (o : Option Operation) → operation_due a.due ≡ o → touch y a ≡ touch_of y a.runner.has o
   by_operation y a o e = ap (touch_of y a.runner.has) e
@@ -111,36 +120,35 @@ module _ (take give : ℕ) (bodies : ℕ → Code ℕ) (has : HasBodies take giv
   step_is a s q cs e left = same_some s (step_at q cs) (sym e ∙ next_at take give bodies has set x q cs a.runner left)
 
   module _ {Taken Given : Type 0} {stage : Stage} where
-    on_acts : (a : Acting Work) (q : Point) → operation_due a.due ≡ Some (operation_at q) → IsOn Taken Given x stage q a.runner.has → Acts stage a
-    on_acts a TakeChecks e on = nothing a (record { next = by_operation x a (Some (operation_at TakeChecks)) e; now = by_operation (suc x) a (Some (operation_at TakeChecks)) e })
-    on_acts a TakeChecksShared e on = nothing a (record { next = by_operation x a (Some (operation_at TakeChecksShared)) e; now = by_operation (suc x) a (Some (operation_at TakeChecksShared)) e })
-    on_acts a Draws e on = record {
-      kind = Drawing;
-      accesses = record {
-        next = by_operation x a (Some (Combine MpAdd)) e ∙ multi_here x a.runner.has (omega (arith, room)) on.has;
-        now = by_operation (suc x) a (Some (Combine MpAdd)) e ∙ multi_other (suc x) x a.runner.has (apart x) on.has;
-      };
-      may = λ act is. subst (λ k. MayDo k stage) (same_some Draw act is) (subst (MayDo Draw) (sym on.stage_is) tt);
+    on_accesses : (a : Acting Work) (q : Point) → operation_due a.due ≡ Some (operation_at q) → IsOn Taken Given x stage q a.runner.has → Accesses x (kind_at q) a
+    on_accesses a TakeChecks e on = record { next = by_operation x a (Some (operation_at TakeChecks)) e; now = by_operation (suc x) a (Some (operation_at TakeChecks)) e }
+    on_accesses a TakeChecksShared e on = record { next = by_operation x a (Some (operation_at TakeChecksShared)) e; now = by_operation (suc x) a (Some (operation_at TakeChecksShared)) e }
+    on_accesses a Draws e on = record {
+      next = by_operation x a (Some (Combine MpAdd)) e ∙ multi_here x a.runner.has (omega (arith, room)) on.has;
+      now = by_operation (suc x) a (Some (Combine MpAdd)) e ∙ multi_other (suc x) x a.runner.has (apart x) on.has;
     }
-    on_acts a LookChecks e on = nothing a (record { next = by_operation x a (Some (operation_at LookChecks)) e; now = by_operation (suc x) a (Some (operation_at LookChecks)) e })
-    on_acts a Looks e on = record {
-      kind = Looking;
-      accesses = record {
-        next = by_operation x a (Some Read) e ∙ read_other x (suc x) a.runner.has (apart' x) on.has;
-        now = by_operation (suc x) a (Some Read) e ∙ read_here (suc x) a.runner.has room on.has;
-      };
-      may = λ act is. subst (λ k. MayDo k stage) (same_some Look act is) (subst (MayDo Look) (sym on.stage_is) tt);
+    on_accesses a LookChecks e on = record { next = by_operation x a (Some (operation_at LookChecks)) e; now = by_operation (suc x) a (Some (operation_at LookChecks)) e }
+    on_accesses a Looks e on = record {
+      next = by_operation x a (Some Read) e ∙ read_other x (suc x) a.runner.has (apart' x) on.has;
+      now = by_operation (suc x) a (Some Read) e ∙ read_here (suc x) a.runner.has room on.has;
     }
-    on_acts a GiveChecks e on = nothing a (record { next = by_operation x a (Some (operation_at GiveChecks)) e; now = by_operation (suc x) a (Some (operation_at GiveChecks)) e })
-    on_acts a GiveChecksShared e on = nothing a (record { next = by_operation x a (Some (operation_at GiveChecksShared)) e; now = by_operation (suc x) a (Some (operation_at GiveChecksShared)) e })
-    on_acts a Adds e on = record {
-      kind = Giving;
-      accesses = record {
-        next = by_operation x a (Some (Combine MpAdd)) e ∙ multi_other x (suc x) a.runner.has (apart' x) on.has;
-        now = by_operation (suc x) a (Some (Combine MpAdd)) e ∙ multi_here (suc x) a.runner.has room on.has;
-      };
-      may = λ act is. subst (λ k. MayDo k stage) (same_some Give act is) (subst (MayDo Give) (sym on.stage_is) tt);
+    on_accesses a GiveChecks e on = record { next = by_operation x a (Some (operation_at GiveChecks)) e; now = by_operation (suc x) a (Some (operation_at GiveChecks)) e }
+    on_accesses a GiveChecksShared e on = record { next = by_operation x a (Some (operation_at GiveChecksShared)) e; now = by_operation (suc x) a (Some (operation_at GiveChecksShared)) e }
+    on_accesses a Adds e on = record {
+      next = by_operation x a (Some (Combine MpAdd)) e ∙ multi_other x (suc x) a.runner.has (apart' x) on.has;
+      now = by_operation (suc x) a (Some (Combine MpAdd)) e ∙ multi_here (suc x) a.runner.has room on.has;
     }
+
+    -- it may do it in its stage
+    on_may : (q : Point) (p : Processor) → IsOn Taken Given x stage q p → (act : Act) → kind_act (kind_at q) ≡ Some act → MayDo act stage
+    on_may Draws p on act is = subst (λ k. MayDo k stage) (same_some Draw act is) (subst (MayDo Draw) (sym on.stage_is) tt)
+    on_may Looks p on act is = subst (λ k. MayDo k stage) (same_some Look act is) (subst (MayDo Look) (sym on.stage_is) tt)
+    on_may Adds p on act is = subst (λ k. MayDo k stage) (same_some Give act is) (subst (MayDo Give) (sym on.stage_is) tt)
+    on_may TakeChecks p on act is = no_act act is
+    on_may TakeChecksShared p on act is = no_act act is
+    on_may LookChecks p on act is = no_act act is
+    on_may GiveChecks p on act is = no_act act is
+    on_may GiveChecksShared p on act is = no_act act is
 
     pub acts : (a : Acting Work) → Alone x a → Asks Taken Given stage a → Acts stage a
     acts a alone (Rests e w) = nothing a (untouched x a alone (λ s f lt called. let bad : None ≡ Some s = sym e ∙ f in absurd (cc)))
@@ -151,7 +159,8 @@ module _ (take give : ℕ) (bodies : ℕ → Code ℕ) (has : HasBodies take giv
         omega (arith, high, same, lt)))
     acts a alone (Due s e f differs (Within q cs outer left (Other other idle))) = nothing a (untouched x a alone (λ u g lt called. other called))
     acts a alone (Due s e f differs (Within q cs outer left (This on))) =
-        on_acts a q (ap operation_due e ∙ ap (λ (k : Step Work). Some k.operation) (step_is a s q cs f left)) on
+        let op = ap operation_due e ∙ ap (λ (k : Step Work). Some k.operation) (step_is a s q cs f left) in
+        record { kind = kind_at q; accesses = on_accesses a q op on; may = on_may q a.runner.has on }
 
   -- ---- what becomes of it
 
@@ -260,9 +269,11 @@ module _ (take give : ℕ) (bodies : ℕ → Code ℕ) (has : HasBodies take giv
         by is (Free given' outside) turn = absurd (turns.both turn.0 given')
         by is (Holds taken inside) turn = give_begins take give bodies has set x room t.callers p t.outer is inside turn.1
 
-    entered_is : (s : Step Work) (v : ℕ) (w : Work) → s.operation ≡ Enter 1 → s.rest true ≡ w
-        → record { left = s.rest true; has = with_answer s.operation v p } ≡ record { left = w; has = entered 1 p }
-    entered_is s v w op goes = ap₂ (λ (l : Work) (o : Operation). record { left = l; has = with_answer o v p }) goes op
+    abbrev at : Work → Processor → Runner Work
+    at w own = record { left = w; has = own }
+
+    entered_is : (s : Step Work) (v : ℕ) (w : Work) → s.operation ≡ Enter 1 → s.rest true ≡ w → at (s.rest true) (with_answer s.operation v p) ≡ at w (entered 1 p)
+    entered_is s v w op goes = ap₂ (λ (l : Work) (o : Operation). at l (with_answer o v p)) goes op
 
     -- outside of the two functions
     away_becomes : (s : Step Work) (r : Runner Work) → a.due ≡ Some s → Leads take give s → Idle Taken Given stage → stage' ≡ stage → Does s p r → Ends r
@@ -286,22 +297,22 @@ module _ (take give : ℕ) (bodies : ℕ → Code ℕ) (has : HasBodies take giv
 
       on_becomes : (q : Point) → operation_due a.due ≡ Some (operation_at q) → IsOn Taken Given x stage q p → NextStage a stage stage' (r_at q) → Ends (r_at q)
       on_becomes TakeChecks e on ends =
-          as_before (ends Nothing (on_acts a TakeChecks e on).accesses) (take_checked take give bodies has set x room Taken' Given' stage cs outer p v (later_on TakeChecks p quiet.0 quiet.1 on))
+          as_before (ends Nothing (on_accesses a TakeChecks e on)) (take_checked take give bodies has set x room Taken' Given' stage cs outer p v (later_on TakeChecks p quiet.0 quiet.1 on))
       on_becomes TakeChecksShared e on ends =
-          as_before (ends Nothing (on_acts a TakeChecksShared e on).accesses) (take_checked_shared take give bodies has set x room Taken' Given' stage cs outer p v (later_on TakeChecksShared p quiet.0 quiet.1 on))
+          as_before (ends Nothing (on_accesses a TakeChecksShared e on)) (take_checked_shared take give bodies has set x room Taken' Given' stage cs outer p v (later_on TakeChecksShared p quiet.0 quiet.1 on))
       on_becomes Draws e on ends =
-          drawn take give bodies has set x room Taken' Given' stage' cs outer p v on.called on.has (ends Drawing (on_acts a Draws e on).accesses) (quiet.0 on.turn_is)
+          drawn take give bodies has set x room Taken' Given' stage' cs outer p v on.called on.has (ends Drawing (on_accesses a Draws e on)) (quiet.0 on.turn_is)
       on_becomes LookChecks e on ends =
-          as_before (ends Nothing (on_acts a LookChecks e on).accesses) (look_checked take give bodies has set x room Taken' Given' stage cs outer p v (later_on LookChecks p quiet.0 quiet.1 on))
+          as_before (ends Nothing (on_accesses a LookChecks e on)) (look_checked take give bodies has set x room Taken' Given' stage cs outer p v (later_on LookChecks p quiet.0 quiet.1 on))
       on_becomes Looks e on ends =
-          subst (λ k. Runs Taken' Given' k (r_at Looks)) (sym (ends Looking (on_acts a Looks e on).accesses))
+          subst (λ k. Runs Taken' Given' k (r_at Looks)) (sym (ends Looking (on_accesses a Looks e on)))
           (looked_on take give bodies has set x room stage cs outer p v (later_on Looks p quiet.0 quiet.1 on))
       on_becomes GiveChecks e on ends =
-          as_before (ends Nothing (on_acts a GiveChecks e on).accesses) (give_checked take give bodies has set x room Taken' Given' stage cs outer p v (later_on GiveChecks p quiet.0 quiet.1 on))
+          as_before (ends Nothing (on_accesses a GiveChecks e on)) (give_checked take give bodies has set x room Taken' Given' stage cs outer p v (later_on GiveChecks p quiet.0 quiet.1 on))
       on_becomes GiveChecksShared e on ends =
-          as_before (ends Nothing (on_acts a GiveChecksShared e on).accesses) (give_checked_shared take give bodies has set x room Taken' Given' stage cs outer p v (later_on GiveChecksShared p quiet.0 quiet.1 on))
+          as_before (ends Nothing (on_accesses a GiveChecksShared e on)) (give_checked_shared take give bodies has set x room Taken' Given' stage cs outer p v (later_on GiveChecksShared p quiet.0 quiet.1 on))
       on_becomes Adds e on ends =
-          given take give bodies has set x room Taken' Given' stage' cs outer p v (ends Giving (on_acts a Adds e on).accesses) (quiet.1 on.turn_is)
+          given take give bodies has set x room Taken' Given' stage' cs outer p v (ends Giving (on_accesses a Adds e on)) (quiet.1 on.turn_is)
 
       call_becomes : (q : Point) → operation_due a.due ≡ Some (operation_at q) → InCall Taken Given x stage q p → NextStage a stage stage' (r_at q) → Ends (r_at q)
       call_becomes q e (This on) ends = on_becomes q e on ends

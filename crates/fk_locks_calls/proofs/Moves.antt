@@ -1,7 +1,6 @@
 -- What the answer of a request leads to in the lock's functions.
-use Rattle.std.proofs.Common.{◌≡◌, ◌+◌, ◌<◌, ◌%◌, ◌^◌, ℕ, zero, suc, Bool, true, false, not, true≢false, List, [], ◌∷◌, arith, ap, ◌∙◌, refl, sym, subst}
+use Rattle.std.proofs.Common.{◌≡◌, ◌<◌, ℕ, suc, Bool, true, false, not, List, [], ◌∷◌, arith, ap, ◌∙◌, refl, sym, subst}
 use Rattle.std.specs.Prelude.{◌==◌, if◌then◌else◌}
-use Rattle.std.specs.Int.{from_bool}
 use Rattle.fk_num.specs.declared.operator.Op.TheVariants.{Ne}
 use Rattle.fk_num.specs.Word.{word_sum}
 use Rattle.fk_num.specs.Op.{applied}
@@ -13,8 +12,8 @@ use Rattle.fk_meaning.specs.Round.{Runner, after_one}
 use Rattle.fk_meaning.specs.Next.{Work, going, next}
 use Rattle.fk_tickets.specs.Lock.{Stage, Outside, Waiting, Inside, looked}
 use Rattle.fk_locks_calls.specs.Code.{code_of_take, code_of_give}
-use Rattle.fk_locks_calls.proofs.Outer.{AllOuter, HasBodies, OuterWork, returns}
-use Rattle.fk_locks_calls.proofs.Points.{Point, TakeChecks, TakeChecksShared, Draws, LookChecks, Looks, GiveChecks, GiveChecksShared, Adds, Idle, Free, Holds, InCall, IsOn, This, Other, Stands, Away, Within, Will, after_draw, after_give, after_read, left_after, leaving, now, operation_at, soon, turning, values_at}
+use Rattle.fk_locks_calls.proofs.Outer.{AllOuter, HasBodies, returns}
+use Rattle.fk_locks_calls.proofs.Points.{Point, TakeChecks, TakeChecksShared, Draws, LookChecks, Looks, GiveChecks, GiveChecksShared, Adds, Idle, Free, Holds, IsOn, This, Other, Stands, Away, Within, Will, left_after, leaving, now, operation_at, soon, turning, values_at}
 
 pub first_address : (x : ℕ) → suc x < shared_words → word_sum (address_of x) 0 ≡ address_of x
 first_address x room = omega (arith, room)

@@ -1,10 +1,6 @@
 -- Where a processor is in the lock's functions: the requests that it gets to, and what it has there.
-use Rattle.std.proofs.Common.{◌≡◌, ◌+◌, ◌<◌, ◌⊎◌, ◌%◌, ◌^◌, ℕ, zero, suc, Bool, true, false, not, List, [], ◌∷◌, Option, Some, None, inl, inr, arith, ap, ◌∙◌, refl, sym, subst}
-use Rattle.std.specs.Prelude.{◌==◌, if◌then◌else◌}
-use Rattle.std.proofs.lemmas.Bool.{eq-eqb}
-use Rattle.fk_num.specs.declared.operator.Op.TheVariants.{Add, Ne}
-use Rattle.fk_num.specs.Word.{word_sum}
-use Rattle.fk_num.specs.Op.{applied}
+use Rattle.std.proofs.Common.{◌≡◌, ℕ, zero, suc, Bool, true, false, List, [], ◌∷◌, Option, Some, None, ap, ◌∙◌, refl, sym, subst}
+use Rattle.fk_num.specs.declared.operator.Op.TheVariants.{Ne}
 use Rattle.fk_meaning_operation.specs.declared.operation.Multiprefix.TheVariants.{MpAdd}
 use Rattle.fk_meaning_operation.specs.declared.operation.Operation.{Operation}
 use Rattle.fk_meaning_operation.specs.declared.operation.Operation.TheVariants.{Push, Get, Set, DropLast, Binary, Branch, Leave, Check, Read, Combine}
@@ -13,16 +9,15 @@ use Rattle.fk_meaning_operation.specs.declared.operation.Variable.TheVariants.{P
 use Rattle.fk_meaning_operation.specs.declared.kinds.Class.{Class}
 use Rattle.fk_meaning_operation.specs.declared.kinds.Class.TheVariants.{Local, Request, Tree}
 use Rattle.fk_meaning_operation.specs.Kinds.{class_of}
-use Rattle.fk_meaning_store.specs.Store.{address_of, shared_words}
+use Rattle.fk_meaning_store.specs.Store.{address_of}
 use Rattle.fk_meaning_forms.specs.Code.{Code, done, perform, while, turn, quit, ends}
-use Rattle.fk_meaning.specs.Processor.{Processor, Setting, values, last, before, push}
-use Rattle.fk_meaning.specs.Local.{local, is_onward}
-use Rattle.fk_meaning.specs.Request.{arguments, entered, with_answer}
-use Rattle.fk_meaning.specs.Round.{Step, Runner, Acting, after_locals, after_one, do_local, local_phase, taking}
-use Rattle.fk_meaning.specs.Next.{Work, going, returned, next}
+use Rattle.fk_meaning.specs.Processor.{Processor, Setting, values}
+use Rattle.fk_meaning.specs.Local.{is_onward}
+use Rattle.fk_meaning.specs.Round.{Step, Runner, after_locals, after_one, do_local, local_phase, taking}
+use Rattle.fk_meaning.specs.Next.{Work, going, next}
 use Rattle.fk_tickets.specs.Lock.{Stage, Outside, Waiting, Inside}
-use Rattle.fk_locks_calls.specs.Code.{reads, code_of_take, code_of_give}
-use Rattle.fk_locks_calls.proofs.Outer.{AllOuter, CallsOf, HasBodies, Leads, On, OuterWork, Takes, Gives, Stepped, is_stepped, returns}
+use Rattle.fk_locks_calls.specs.Code.{reads}
+use Rattle.fk_locks_calls.proofs.Outer.{AllOuter, HasBodies, Leads, On, OuterWork, Takes, Gives, Stepped, is_stepped}
 
 -- ---- the code that is left at each request
 
@@ -90,16 +85,6 @@ code_at q = perform (site_at q) (operation_at q) (left_after q)
 
 abbrev pub step_at : Point → List (Code ℕ) → Step Work
 step_at q cs = record { operation = operation_at q; site = site_at q; rest = λ onward. going (left_after q) cs }
-
-pub low_site : (q : Point) → site_at q < 27
-low_site TakeChecks = omega arith
-low_site TakeChecksShared = omega arith
-low_site Draws = omega arith
-low_site LookChecks = omega arith
-low_site Looks = omega arith
-low_site GiveChecks = omega arith
-low_site GiveChecksShared = omega arith
-low_site Adds = omega arith
 
 pub requests : (q : Point) → class_of (operation_at q) ≡ Request
 requests TakeChecks = refl

@@ -1,24 +1,23 @@
 -- A round of all processors.
-use Rattle.std.proofs.Common.{◌≡◌, ◌+◌, ◌<◌, ℕ, zero, suc, List, [], ◌∷◌, Option, Some, None, arith, ap, ◌∙◌, refl, sym, subst}
+use Rattle.std.proofs.Common.{◌≡◌, ◌+◌, ◌<◌, ℕ, suc, List, [], Some, None, arith, ap, ◌∙◌, refl, sym, subst}
 use Rattle.std.specs.Prelude.{fold, option_map, slice_get, take}
-use Rattle.fk_meaning_operation.specs.declared.operation.Operation.{Operation}
 use Rattle.fk_meaning_store.specs.declared.request.Request.TheVariants as q
 use Rattle.fk_meaning_store.specs.Store.{address_of, shared_words}
 use Rattle.fk_meaning_forms.specs.Code.{Code}
-use Rattle.fk_meaning.specs.Processor.{Processor, Setting, values, last}
-use Rattle.fk_meaning.specs.Round.{Step, Runner, State, Acting, result}
+use Rattle.fk_meaning.specs.Processor.{Setting, values, last}
+use Rattle.fk_meaning.specs.Round.{Runner, State, Acting, result}
 use Rattle.fk_meaning.specs.Touch.{last_of}
 use Rattle.fk_meaning.specs.Next.{Work, next}
 use Rattle.fk_lockstep.proofs.Moves.{answer_number}
-use Rattle.fk_tickets.specs.Lock.{Draw, Look, Give, Lock, Stage, Outside, Waiting, Inside, after, event, looked}
+use Rattle.fk_tickets.specs.Lock.{Lock, MayDo, Stage, Outside, Waiting, after, looked}
 use Rattle.fk_tickets.proofs.Counts.{its_stage}
 use Rattle.fk_locks_runs.specs.Locks.{AreOfLock, AreWords, UsesLock, asked, events, told_by}
 use Rattle.fk_locks_runs.proofs.Rounds.{rounds_use_locks}
 use Rattle.fk_locks_calls.proofs.Outer.{HasBodies}
-use Rattle.fk_locks_calls.proofs.Became.{Becomes, Same, Done, Does, Answered, Steps, NotLocal, acted, acted_number, asked_from, asks_at, becomes_at}
+use Rattle.fk_locks_calls.proofs.Became.{Becomes, Same, Done, Answered, Steps, acted_number, asked_from, asks_at, becomes_at}
 use Rattle.fk_locks_calls.proofs.Events.{FairFrom, Numbered, act_of, are_of_lock, numbered, round_fair, stage_after, stage_before}
 use Rattle.fk_locks_calls.proofs.Touching.{Accesses, Alone, Kind, Nothing, Drawing, Looking, Giving, act_is, kind_act, next_is_of}
-use Rattle.fk_locks_calls.proofs.Kept.{Acts, Asks, IsStage, NextStage, Runs, Turns, acts, asks, asks_no_local, becomes}
+use Rattle.fk_locks_calls.proofs.Kept.{Acts, Asks, NextStage, Runs, Turns, acts, asks, asks_no_local, becomes}
 
 becomes_number : (a : Acting Work) (r : Runner Work) → Becomes a r → r.has.number ≡ a.runner.has.number
 becomes_number a r (Same e is) = ap (λ (u : Runner Work). u.has.number) is
@@ -71,7 +70,8 @@ module _ (take_it give_it : ℕ) (bodies : ℕ → Code ℕ) (has : HasBodies ta
         (λ h a at.
         let k = own_acts h a at in
         let low = (acted_at h a at).low in
-        (omega (arith, low), λ act is. k.may act (sym (act_is x k.kind a k.accesses) ∙ is)))
+        let here : h ≡ 0 + h = omega arith in
+        (omega (arith, low), λ act is. subst (λ i. MayDo act (l.stage i)) here (k.may act (sym (act_is x k.kind a k.accesses) ∙ is))))
 
     module _ (no_fault : (result (next bodies) set round s).fault ≡ None) (Taken' Given' : ℕ → Type 0)
         (turns : (h : ℕ) (a : Acting Work) → slice_get actings h ≡ Some a → Turns x (Taken h) (Given h) (Taken' h) (Given' h) a) where

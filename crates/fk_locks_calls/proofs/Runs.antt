@@ -1,36 +1,34 @@
 -- Runs of programs that use a lock fairly.
-use Rattle.std.proofs.Common.{◌≡◌, ◌≢◌, ◌+◌, ◌<◌, ◌≤◌, ◌^◌, ◌⊎◌, ℕ, zero, suc, Bool, true, List, [], ◌∷◌, Option, Some, None, inl, inr, arith, ap, ap₂, ◌∙◌, refl, sym, subst}
+use Rattle.std.proofs.Common.{◌≡◌, ◌+◌, ◌<◌, ◌≤◌, ℕ, zero, suc, true, List, [], Option, Some, None, inl, inr, arith, ap, ◌∙◌, refl, sym, subst}
 use Rattle.std.specs.Prelude.{fold, slice_get, slice_index, take}
-use Rattle.std.proofs.lemmas.Bool.{cases_eq, cases_lt}
-use Rattle.fk_syntax.specs.Program.{FunctionTree, ProgramTree}
-use Rattle.fk_meaning_store.specs.Store.{address_of}
-use Rattle.fk_meaning_forms.specs.Code.{Code, done, perform, size}
+use Rattle.std.proofs.lemmas.Bool.{cases_lt}
+use Rattle.fk_syntax.specs.Program.{ProgramTree}
+use Rattle.fk_meaning_forms.specs.Code.{Code, perform}
 use Rattle.fk_meaning_forms.specs.Tables.{Tables}
 use Rattle.fk_meaning_forms.specs.Program.{binding_of, bodies_of, main_of}
 use Rattle.fk_meaning.specs.Left.{settled}
 use Rattle.fk_meaning.specs.Processor.{Setting, setting_of}
 use Rattle.fk_meaning.specs.Program.{main_work, next_in, program_opening}
-use Rattle.fk_meaning.specs.Round.{Step, Runner, Fault, State, Round, Acting, result}
+use Rattle.fk_meaning.specs.Round.{Step, Runner, State, Round, Acting, result}
 use Rattle.fk_meaning.specs.Schedule.{Schedule, ArePossible, first_processor, run}
-use Rattle.fk_meaning.specs.Touch.{touch}
-use Rattle.fk_meaning.specs.Next.{Work, next}
+use Rattle.fk_meaning.specs.Next.{Work}
 use Rattle.fk_core_flat.specs.Fitting.{ProgramFits}
 use Rattle.fk_tickets.specs.Lock.{Lock, after, opening}
 use Rattle.fk_locks_runs.specs.Locks.{Excludes, asked, events, history}
 use Rattle.fk_locks_runs.proofs.Rounds.{runs_exclude}
 use Rattle.fk_locks_calls.specs.Code.{HasLock, code_of_take, code_of_give}
-use Rattle.fk_locks_calls.specs.Calls.{AsksAt, BeginsAt, Calls, IsOfCall, IsServedAt, ProgramsExclude, UsesCallsFairly, sites_of_lock}
+use Rattle.fk_locks_calls.specs.Calls.{AsksAt, BeginsAt, Calls, IsServedAt, ProgramsExclude, UsesCallsFairly}
 use Rattle.fk_locks_calls.proofs.Outer.{HasBodies, OuterWork, goes}
 use Rattle.fk_locks_calls.proofs.Points.{Away, Free, now}
 use Rattle.fk_locks_calls.proofs.Bodies as b
 use Rattle.fk_locks_calls.proofs.Events.{is_fair}
 use Rattle.fk_locks_calls.proofs.Touching.{Alone}
 use Rattle.fk_locks_calls.proofs.Kept.{CallsTo, Turns}
-use Rattle.fk_locks_calls.proofs.Round.{Standing, Stays, fair, of_lock, stands_then}
+use Rattle.fk_locks_calls.proofs.Round.{Standing, fair, of_lock, stands_then}
 use Rattle.fk_locks_calls.proofs.Histories.{GoesOn, begins_at, fair_by, goes_on, history_more, run_more, used_by}
 
 -- the two codes differ by their first sites
-first_site : Code ℕ → ℕ
+abbrev first_site : Code ℕ → ℕ
 first_site (perform n op rest) = n
 first_site code = 0
 
@@ -145,14 +143,18 @@ module _ (tables : Tables) (program : ProgramTree) (lock : HasLock tables progra
         gives_here c = (a, asks_it, record { step = c.step; due = c.due; enters = c.enters; given = c.given_it; goes = c.goes_there ∙ sym give_body }, is_served)
 
         still_taken : (CallsTo x code_of_give a → ⊥) → Taken t h → Taken (suc t) h
-        still_taken differs (u, lt, begins, none) =
-            (u, omega (arith, lt), begins, λ v low high g.
+        still_taken differs (u, lt, begins, none) = (
+          u,
+          omega (arith, lt),
+          begins,
+          λ v low high g.
               elim (cases_lt v t) [
                 | inl lower ↦ none v low lower g
                 | inr upper ↦
                     let same : v ≡ t = omega (arith, upper, high) in
                     differs (is_give (subst (λ k. Gives k h) same g))
-              ])
+              ],
+        )
 
         still_given : (CallsTo x code_of_take a → ⊥) → Given t h → Given (suc t) h
         still_given differs given u lt g =
@@ -215,8 +217,8 @@ module _ (tables : Tables) (program : ProgramTree) (lock : HasLock tables progra
       let g = on t (omega arith) in
       let before = stands t (λ i lt. on i (omega (arith, lt))) in
       let then_ = stands_then take_it give_it bodies has set x uses.room processors g.round (state t) (lock_at t) (Taken t) (Given t) before
-          (λ h a at. alone_at t g.round g.is_round h a at) g.no_fault (Taken (suc t)) (Given (suc t))
-          (λ h a at. turns_at t g.round g.is_round h a at g.no_fault) in
+      (λ h a at. alone_at t g.round g.is_round h a at) g.no_fault (Taken (suc t)) (Given (suc t))
+      (λ h a at. turns_at t g.round g.is_round h a at g.no_fault) in
       subst (λ l. Standing take_it give_it bodies has set x uses.room processors (Taken (suc t)) (Given (suc t)) l (state (suc t))) (sym (history_more nexts set x schedule first opening t g.round g.is_round))
       (subst (λ s. Standing take_it give_it bodies has set x uses.room processors (Taken (suc t)) (Given (suc t)) (fold after (lock_at t) (events x (asked nexts set g.round (state t)))) s)
       (sym (run_more nexts set schedule first t g.round g.is_round)) then_)

@@ -1,8 +1,7 @@
 -- Which words of the lock the requests of a processor access.
-use Rattle.std.proofs.Common.{◌≡◌, ◌≢◌, ◌+◌, ◌-◌, ◌/◌, ◌<◌, ◌≤◌, ◌⊎◌, ◌&&◌, ℕ, suc, Bool, true, false, List, [], ◌∷◌, Option, Some, None, inl, inr, arith, ap, ap₂, ◌∙◌, refl, sym, subst}
-use Rattle.std.specs.Prelude.{◌==◌, nat_le, nat_lt, if◌then◌else◌}
+use Rattle.std.proofs.Common.{◌≡◌, ◌≢◌, ◌+◌, ◌-◌, ◌*◌, ◌<◌, ◌≤◌, ◌⊎◌, ◌&&◌, ℕ, suc, Bool, true, false, [], ◌∷◌, Option, Some, None, inl, inr, arith, ap, ap₂, ◌∙◌, refl, sym, subst}
+use Rattle.std.specs.Prelude.{if◌then◌else◌}
 use Rattle.std.proofs.lemmas.Bool.{eq-eqb, ne_eqb, le-leb, lt-ltb}
-use Rattle.fk_meaning_operation.specs.declared.operation.Operation.{Operation}
 use Rattle.fk_meaning_operation.specs.declared.operation.Operation.TheVariants.{Read, Combine}
 use Rattle.fk_meaning_operation.specs.declared.operation.Multiprefix.TheVariants.{MpAdd}
 use Rattle.fk_meaning_store.specs.declared.request.Request as r
@@ -10,10 +9,9 @@ use Rattle.fk_meaning_store.specs.declared.request.Request.TheVariants as q
 use Rattle.fk_meaning_store.specs.Store.{address_of, shared_words}
 use Rattle.fk_meaning_store.specs.Serve.{is_shared, shared_index}
 use Rattle.fk_meaning.specs.Processor.{Processor, values, last, before}
-use Rattle.fk_meaning.specs.Request.{request}
 use Rattle.fk_meaning.specs.Round.{Step, Acting}
-use Rattle.fk_meaning.specs.Touch.{is_word, operation_due, touch, touch_of, touches}
-use Rattle.fk_tickets.specs.Lock.{Act, Draw, Look, Give, MayDo, Stage, Outside, Waiting, Inside}
+use Rattle.fk_meaning.specs.Touch.{is_word, touch, touch_of}
+use Rattle.fk_tickets.specs.Lock.{Act, Draw, Look, Give}
 use Rattle.fk_locks_runs.specs.Locks.{IsOfNext, IsOfNow, act_by}
 use Rattle.fk_locks_calls.proofs.Events.{act_of}
 
