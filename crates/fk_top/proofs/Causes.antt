@@ -19,6 +19,7 @@ use Rattle.fk_top_words.proofs.OneCommand.{one_command}
 use Rattle.fk_layout_globals.specs.Rows.{Row}
 use Rattle.fk_compile_text.specs.Text.{IsChecked, HasGlobal}
 use Rattle.fk_compile.specs.Faithful.{IsFaithful, words_by}
+use Rattle.fk_trace_laws.proofs.OneProgram.{one_words}
 use Rattle.fk_top.specs.declared.status.Status.{Status}
 use Rattle.fk_top.specs.declared.status.Status.TheVariants.{Done, Refused, Usage, ReadFault, WriteFault, Memory, SourceFault, CycleBound, Trap, ImageRefused, InputRefused, ElfRefused}
 use Rattle.fk_top.specs.Words.{TakesInput, Puts, IsPut, Origin, FirstOf, Generated, Nowhere, origin_of, most_input}
@@ -27,7 +28,7 @@ use Rattle.fk_top.specs.Refused.{IsRefusedBy, IsNoElfAs, IsNoImageAs}
 use Rattle.fk_top.specs.Call.{Call, Request, Change, Rose, Ends, IsUnread, IsFileUnread, OriginFaults, AreRead, AreThere, IsHeld, IsInputUnread, IsCut, IsOutOfMemory, HasEnded, HasCause, IsInOrder, IsReadable, IsAccepted, IsInputBeside, IsOfStand, IsOfAccepted, IsOfUnreadable, IsOfUnaccepted, IsText, IsImage, IsElf, AreCut}
 use Rattle.fk_top.proofs.Inputs.{none_refused}
 use Rattle.fk_top.proofs.Lost.{no_more, moved, few_input}
-use Rattle.fk_top.proofs.Readable.{whole, same_words, variable_there, text_accepted, image_accepted, image_short, elf_accepted, elf_short}
+use Rattle.fk_top.proofs.Readable.{whole, variable_there, text_accepted, image_accepted, image_short, elf_accepted, elf_short}
 
 -- ---- the read
 
@@ -284,7 +285,7 @@ input_of_taken limit text = by (nat_lt 1048576 (length text)) refl
 globals_of : (source : List ℕ) (image : Image) (program : ProgramTree) (facts : Facts) → IsFaithful source image → IsChecked source program facts
     → vec_len image.globals ≡ length (words_by program facts)
 globals_of source image program facts faithful checked =
-    let same = same_words source faithful.program program faithful.facts facts faithful.checked checked in
+    let same = one_words source faithful.program program faithful.facts facts faithful.checked checked in
     omega (arith, image.globals.ok.0, ap length faithful.faithful.globals_are, ap length same)
 
 beside : (globals other : ℕ) (text numbers : List ℕ) → globals ≡ other → input_of (most_numbers globals) (take 1048577 text) ≡ Ok numbers → IsInputBeside other text

@@ -4,8 +4,6 @@ use Rattle.std.proofs.lemmas.List.{length-append, length-take, take_all}
 use Rattle.std.proofs.lemmas.List.Elements.{All-contains}
 use Rattle.std.proofs.lemmas.Option.{none-some}
 use Rattle.fk_syntax.specs.declared.facts.Facts.{Facts}
-use Rattle.fk_syntax.specs.declared.facts.Kind.{Kind}
-use Rattle.fk_syntax.specs.declared.facts.Note.{Note}
 use Rattle.fk_syntax.specs.declared.place.Place.{Place}
 use Rattle.fk_syntax.specs.Program.{DeclaredTree, ItemTree, ProgramTree}
 use Rattle.fk_lex.specs.Reading.{Spelled}
@@ -14,16 +12,13 @@ use Rattle.fk_parse_combinators.specs.declared.fault.SyntaxFault.{SyntaxFault}
 use Rattle.fk_parse_combinators.specs.declared.fault.SyntaxFault.TheVariants as syntax_fault
 use Rattle.fk_parse_combinators.specs.Faults.{IsMemory}
 use Rattle.fk_parse.specs.Parses.{SpellsProgram}
-use Rattle.fk_parse.proofs.Texts.{one_tree, tree_or_fault}
+use Rattle.fk_parse.proofs.Texts.{tree_or_fault}
 use Rattle.fk_check.specs.Rules.{BreaksFirst}
 use Rattle.fk_check.specs.Known.{AreAllFacts}
 use Rattle.fk_check.proofs.Apart.{keeps_or_breaks}
 use Rattle.fk_check.proofs.OneFacts.{one_facts}
-use Rattle.fk_check.specs.Laws.{AreSame}
 use Rattle.fk_compile_text.proofs.Elements.{Contains-head, Contains-tail, Contains-cons_cases, Contains-nil}
 use Rattle.fk_meaning_forms.specs.Tables.{Tables}
-use Rattle.fk_layout_slots.specs.Frames.{regions_of}
-use Rattle.fk_layout_slots.specs.Slots.{slots_of}
 use Rattle.fk_layout.specs.declared.sites.LayoutFault.{LayoutFault}
 use Rattle.fk_layout.specs.declared.sites.LayoutFault.TheVariants as layout
 use Rattle.fk_layout.specs.Layout.{tables_by}
@@ -43,7 +38,7 @@ use Rattle.fk_compile_text.specs.declared.refusal.Refusal.{Refusal}
 use Rattle.fk_compile_text.specs.declared.refusal.Refusal.TheVariants.{BadByte, OpenComment, OpenString, WideNumber, Unexpected, EndOfText, Nesting, Rule, TooManySites, FrameTooLarge, GlobalsTooLarge, SourceTooLong, Memory}
 use Rattle.fk_compile_text.specs.Refusal.{IsRefusedText}
 use Rattle.fk_compile_text.specs.Text.{HasTree, HasSyntaxFault, HasBrokenRule, HasGlobal, HasLayout, IsChecked}
-use Rattle.fk_compile.specs.Faithful.{words_by}
+use Rattle.fk_trace_laws.proofs.OneProgram.{same_tables, same_tree}
 use Rattle.fk_top.specs.declared.report.Report.{Report}
 use Rattle.fk_top.specs.Refused.{IsRefusedBy, IsNoElfAs, IsNoImageAs, refusal_line}
 use Rattle.fk_top.specs.Call.{IsText, IsElf, IsImage}
@@ -60,12 +55,6 @@ not_faulty source tree fault parsed faulty =
     let same = lexed.one_reading.tokens source parsed.tokens faulty.tokens parsed.spelled faulty.spelled in
     tree_or_fault faulty.tokens tree fault (subst (λ (ts : List Spelled). SpellsProgram ts tree) same parsed.derived) faulty.refused
 
--- a text has one tree
-pub same_tree : (source : List ℕ) (tree other : ProgramTree) → HasTree source tree → HasTree source other → tree ≡ other
-same_tree source tree other a b =
-    let same = lexed.one_reading.tokens source a.tokens b.tokens a.spelled b.spelled in
-    one_tree b.tokens tree other (subst (λ (ts : List Spelled). SpellsProgram ts tree) same a.derived) b.derived
-
 kept_or_not : (source : List ℕ) (place : Place) (number : ℕ) → HasLayout source → HasBrokenRule source place number → ⊥
 kept_or_not source place number laid breaks =
     let same = same_tree source breaks.tree laid.tree breaks.parsed laid.checked.parsed in
@@ -78,19 +67,6 @@ fits_or_not tables items (layout.FrameTooLarge place words) fits refused is = no
 fits_or_not tables items (layout.GlobalsTooLarge count) fits refused is = let few = fits.words in absurd (omega (arith, few, refused.2))
 fits_or_not tables items layout.Memory fits refused is = is refl
 
--- the same facts, the same tables
-abbrev made : ProgramTree → List Note → List Kind → Tables
-made tree notes kinds = record {
-  notes = notes;
-  kinds = kinds;
-  slots = slots_of (record { notes = notes; kinds = kinds }) tree.items;
-  regions = regions_of (record { notes = notes; kinds = kinds }) tree.items;
-}
-
-same_tables : (tree : ProgramTree) (one other : Facts) → AreSame one other → tables_by tree one ≡ tables_by tree other
-same_tables tree one other same =
-    ap (λ (ns : List Note). made tree ns one.kinds.items) same.notes ∙ ap (λ (ks : List Kind). made tree other.notes.items ks) same.kinds
-
 -- a text that has a layout, by some facts, isn't refused by it, by other facts
 laid_or_refused : (source : List ℕ) (tree : ProgramTree) (facts : Facts) (fault : LayoutFault) → HasLayout source → IsChecked source tree facts → IsRefusal (tables_by tree facts) tree.items fault
     → fault ≢ layout.Memory → ⊥
@@ -100,15 +76,6 @@ laid_or_refused source tree facts fault laid checked refused is =
     let tables = same_tables tree laid.facts facts (one_facts tree laid.facts facts known checked.known) in
     let fits = subst (λ (t : ProgramTree). Fits (tables_by t laid.facts) t.items) same laid.fits in
     fits_or_not (tables_by tree facts) tree.items fault (subst (λ (t : Tables). Fits t tree.items) tables fits) refused is
-
--- the words of the shared variables of a text rest on it alone
-pub same_words : (source : List ℕ) (one other : ProgramTree) (by with : Facts) → IsChecked source one by → IsChecked source other with → words_by one by ≡ words_by other with
-same_words source one other by with checked again =
-    let same = same_tree source one other checked.parsed again.parsed in
-    let known = subst (λ (t : ProgramTree). AreAllFacts t by) same checked.known in
-    let facts = one_facts other by with known again.known in
-    ap (λ (t : ProgramTree). words_by t by) same
-    ∙ (ap (λ (ns : List Note). words (told ns by.kinds.items) other.items) facts.notes ∙ ap (λ (ks : List Kind). words (told with.notes.items ks) other.items) facts.kinds)
 
 not_refused : (source : List ℕ) (refusal : Refusal) (line : List ℕ) → IsText source → IsRefusedText source refusal → refusal_line refusal ≡ Some line → ⊥
 not_refused source (BadByte place) line text refused says = lexed.one_reading.apart source text.laid.checked.parsed.tokens _ text.laid.checked.parsed.spelled refused.1

@@ -10,6 +10,7 @@ mod ending;
 mod find;
 mod input;
 mod kinds;
+pub mod laws;
 mod line;
 mod lock;
 mod machine_run;

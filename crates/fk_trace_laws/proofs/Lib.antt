@@ -1,0 +1,4 @@
+pub mod OneProgram
+pub mod OneTrace
+pub mod Committed
+pub mod Traced
