@@ -1,6 +1,5 @@
 -- One round: what the processors of a program do with a lock in it, and where they stand after it.
 use Rattle.std.proofs.Common.{◌≡◌, ◌<◌, ℕ, zero, suc, Bool, true, false, List, Option, Some, None, inl, inr, arith, ap, ap₂, ◌∙◌, refl, sym, subst}
-use Rattle.std.specs.Prelude.{take}
 use Rattle.std.proofs.lemmas.Bool.{cases_eq}
 use Rattle.fk_meaning_operation.specs.declared.operation.Operation.{Operation}
 use Rattle.fk_meaning_operation.specs.declared.operation.Operation.TheVariants.{Enter, Combine, Read}

@@ -1,5 +1,5 @@
 -- Which words of the lock the requests of a processor access.
-use Rattle.std.proofs.Common.{◌≡◌, ◌≢◌, ◌+◌, ◌-◌, ◌*◌, ◌<◌, ◌≤◌, ◌⊎◌, ◌&&◌, ℕ, suc, Bool, true, false, [], ◌∷◌, Option, Some, None, inl, inr, arith, ap, ap₂, ◌∙◌, refl, sym, subst}
+use Rattle.std.proofs.Common.{◌≡◌, ◌≢◌, ◌+◌, ◌*◌, ◌<◌, ◌≤◌, ◌⊎◌, ◌&&◌, ℕ, suc, Bool, true, false, [], ◌∷◌, Option, Some, None, inl, inr, arith, ap, ap₂, ◌∙◌, refl, sym, subst}
 use Rattle.std.specs.Prelude.{if◌then◌else◌}
 use Rattle.std.proofs.lemmas.Bool.{eq-eqb, ne_eqb, le-leb, lt-ltb}
 use Rattle.fk_meaning_operation.specs.declared.operation.Operation.TheVariants.{Read, Combine}

@@ -1,5 +1,5 @@
 -- The code of the lock's functions, by what the tables say of their tokens.
-use Rattle.std.proofs.Common.{◌≡◌, ℕ, ◌+◌, ◌*◌, ◌==◌, ◌||◌, Bool, true, false, List, [], ◌∷◌, Option, Some, None, codes, refl, sym, ap, subst, ◌∙◌, if◌then◌else◌}
+use Rattle.std.proofs.Common.{◌≡◌, ℕ, ◌*◌, ◌==◌, ◌||◌, Bool, true, false, List, [], ◌∷◌, Option, Some, None, codes, refl, ap, ◌∙◌, if◌then◌else◌}
 use Rattle.std.specs.Prelude.{is_some}
 use Rattle.std.proofs.lemmas.Bool.{eq-eqb}
 use Rattle.fk_num.specs.declared.operator.Op.TheVariants.{Add, Ne}
@@ -7,9 +7,8 @@ use Rattle.fk_syntax.specs.declared.place.Place.{Place}
 use Rattle.fk_syntax.specs.declared.place.Spot.{Spot}
 use Rattle.fk_syntax.specs.declared.facts.Kind.{Kind}
 use Rattle.fk_syntax.specs.declared.sign.Sign.TheVariants.{Ampersand, NotEqualTo}
-use Rattle.fk_syntax.specs.Tree.{Named, Variable, Prefix, Number}
+use Rattle.fk_syntax.specs.Tree.{Named, Prefix, Number}
 use Rattle.fk_syntax.specs.Program.{FunctionTree, While, Empty}
-use Rattle.fk_meaning_operation.specs.declared.operation.Operation.{Operation}
 use Rattle.fk_meaning_operation.specs.declared.operation.Operation.TheVariants as o
 use Rattle.fk_meaning_operation.specs.declared.operation.Multiprefix.TheVariants.{MpAdd}
 use Rattle.fk_meaning_operation.specs.declared.operation.OwnValue.TheVariants as n
@@ -18,13 +17,13 @@ use Rattle.fk_meaning_operation.specs.declared.operation.Variable.TheVariants as
 use Rattle.fk_meaning_forms.specs.declared.tables.Region.{Region}
 use Rattle.fk_meaning_forms.specs.declared.tables.Slot.{Slot}
 use Rattle.fk_meaning_forms.specs.Signs.{operator_of, move_of}
-use Rattle.fk_meaning_forms.specs.Code.{Code, done, perform, choose, while, quit, ends, numbered}
-use Rattle.fk_meaning_forms.specs.Expressions.{Coded, Evaluation, ResultLocation, OnList, AtAddress, InWord, ToCall, Signature, nowhere, plain, agreed, checked, valued, addressed, assigned, dropped, moved, operate, member, variable, predeclared, placed, calling, called, called_predeclared, multiprefix, evaluated, value}
-use Rattle.fk_meaning_forms.specs.Statements.{Inside, leaving, tested, looping, part_frame, executed, all_executed, end_of, body_of}
-use Rattle.fk_meaning_forms.specs.Tables.{Tables, no_binding, note, kind_at, is_array, is_void, is_unsigned, slot, frame_at}
+use Rattle.fk_meaning_forms.specs.Code.{done, perform, choose, while, quit, ends, numbered}
+use Rattle.fk_meaning_forms.specs.Expressions.{Coded, Evaluation, ResultLocation, OnList, AtAddress, InWord, Signature, nowhere, plain, agreed, checked, valued, addressed, assigned, dropped, moved, operate, member, variable, predeclared, placed, calling, called, called_predeclared, multiprefix, evaluated, value}
+use Rattle.fk_meaning_forms.specs.Statements.{Inside, leaving, tested, part_frame, executed, body_of}
+use Rattle.fk_meaning_forms.specs.Tables.{Tables, no_binding, note, kind_at, is_unsigned, slot, frame_at}
 use Rattle.fk_meaning_forms.specs.Program.{code_of, signature_in}
 use Rattle.fk_locks_calls.specs.Code.{code_of_take, code_of_give}
-use Rattle.fk_locks_tree.specs.Items.{name_at, spot_at, pointed, one_added, take_draw, take_test, take_ticket, take_body, lock_take, give_add, give_body, lock_give}
+use Rattle.fk_locks_tree.specs.Items.{name_at, spot_at, pointed, one_added, take_draw, take_test, take_body, lock_take, give_body, lock_give}
 use Rattle.fk_locks_text.proofs.Slots.{private_word}
 
 -- the code of the functions, with the places of its operations

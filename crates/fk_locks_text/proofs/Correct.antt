@@ -1,6 +1,5 @@
 -- A text that isn't too long and keeps all rules has a correct program.
-use Rattle.std.proofs.Common.{◌≡◌, ℕ, ◌≤◌, ◌^◌, None, List, [], ◌∷◌, ◌++◌, length, take, drop, ap, ◌∙◌, arith, length-append}
-use Rattle.fk_syntax.specs.Program.{ProgramTree}
+use Rattle.std.proofs.Common.{ℕ, ◌≤◌, None, List, [], ◌∷◌, ◌++◌, length, take, drop, ap, arith, length-append}
 use Rattle.fk_lex.specs.declared.step.Step.{Step}
 use Rattle.fk_lex.specs.declared.step.Step.TheVariants.{Gap, Token, Fault}
 use Rattle.fk_lex.specs.Reading.{Cuts, spelled_by, tokens_in}

@@ -1,6 +1,6 @@
 -- What the facts of a text that begins with the lock say of the lock's names.
-use Rattle.std.proofs.Common.{◌≡◌, ◌⊎◌, inl, inr, ℕ, zero, suc, ◌+◌, ◌-◌, ◌*◌, ◌<◌, ◌≤◌, ◌^◌, ◌&&◌, min, true, false, List, [], ◌∷◌, ◌++◌, codes, Option, Some, None, slice_get, length, refl, sym, ap, subst, ◌∙◌, arith}
-use Rattle.std.specs.Prelude.{Contains, IsSomeAnd}
+use Rattle.std.proofs.Common.{◌≡◌, inl, inr, ℕ, ◌-◌, ◌<◌, ◌≤◌, ◌^◌, ◌&&◌, true, false, List, [], ◌∷◌, codes, Option, Some, None, slice_get, refl, sym, ap, subst, ◌∙◌, arith}
+use Rattle.std.specs.Prelude.{Contains}
 use Rattle.std.specs.Option.{option_map, option_and_then}
 use Rattle.std.proofs.lemmas.Option.{same_Some}
 use Rattle.fk_syntax.specs.declared.facts.Facts.{Facts}
@@ -9,21 +9,19 @@ use Rattle.fk_syntax.specs.declared.place.Spot.{Spot}
 use Rattle.fk_syntax.specs.Tree as t
 use Rattle.fk_syntax.specs.Tree.{Named}
 use Rattle.fk_syntax.specs.Program.{DeclaredTree, ItemTree, FunctionItem, ProgramTree}
-use Rattle.fk_check_rules.specs.declared.rule.Rule.{Rule}
 use Rattle.fk_check_rules.specs.declared.rule.Rule.TheVariants as rules
 use Rattle.fk_check_rules.specs.Least.{Breaks}
 use Rattle.fk_types_structs.specs.declared.types.Root.TheVariants as r
 use Rattle.fk_types_structs.specs.declared.types.DataType.{DataType}
 use Rattle.fk_types_structs.specs.Types.{StructTree, structs_of, type_declared, member_named}
-use Rattle.fk_types_structs.specs.Sizes.{HasOffset}
 use Rattle.fk_types_struct_rules.specs.Declarations.{DeclarationBreaks}
 use Rattle.fk_types_operators.specs.declared.values.Value.TheVariants.{Int, Unsigned, Pointer}
 use Rattle.fk_types_operators.specs.declared.values.ExpressionType.{ExpressionType}
 use Rattle.fk_types_operators.specs.declared.values.ExpressionType.TheVariants.{Stored, Computed}
 use Rattle.fk_types_operators.specs.Values.{address_of}
 use Rattle.fk_types_names.specs.declared.names.Meaning.TheVariants as m
-use Rattle.fk_types_names.specs.Outline.{DeclarationTree, MarkTree, Variable, Header, Opens, Closes, Declares, Uses, name_of, outline, items_marks, declarations}
-use Rattle.fk_types_names.specs.Visible.{depth, DeclaresHere, DeclaresAt, IsInnermost}
+use Rattle.fk_types_names.specs.Outline.{MarkTree, Variable, Header, Opens, Closes, Declares, Uses, name_of, outline, items_marks, declarations}
+use Rattle.fk_types_names.specs.Visible.{depth, DeclaresHere, DeclaresAt}
 use Rattle.fk_types_names.specs.Means.{Means, HasBodyAt, predeclared}
 use Rattle.fk_types_name_rules.proofs.ListLemmas.{at_some}
 use Rattle.fk_types_judgments.specs.Names.{Env, Meant, Kept, HasDeclaredType, IsDeclared, predeclared_meant}
@@ -39,7 +37,7 @@ use Rattle.fk_check_laws.specs.Correct.{IsCorrect}
 use Rattle.fk_check_laws.proofs.Notes.{tables, among, binding_is}
 use Rattle.fk_check_laws.proofs.Typed.{Unbroken}
 use Rattle.fk_locks_tree.specs.Items.{name_at, spot_at, declares, lock_struct, lock_take, lock_give, take_parameter, take_ticket, give_parameter}
-use Rattle.fk_locks_text.proofs.Marks.{EachBelow, below, differ, take_mpadd, take_l, test_l, test_t, give_mpadd, give_l, lock_marks, take_l_is, test_l_is, test_t_is, give_l_is, take_mpadd_is, give_mpadd_is}
+use Rattle.fk_locks_text.proofs.Marks.{EachBelow, below, differ, take_mpadd, take_l, test_l, test_t, give_mpadd, give_l, take_l_is, test_l_is, test_t_is, give_l_is, take_mpadd_is, give_mpadd_is}
 
 -- the program of a text that begins with the lock
 abbrev pub lock_program : List ItemTree → Place → ℕ → ProgramTree

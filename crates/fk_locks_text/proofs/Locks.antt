@@ -1,9 +1,8 @@
 -- A text that begins with the lock has its functions first.
-use Rattle.std.proofs.Common.{◌≡◌, ◌⊎◌, inl, inr, ℕ, zero, suc, ◌+◌, ◌<◌, ◌≤◌, Bool, true, false, List, [], ◌∷◌, ◌++◌, Option, Some, None, slice_get, length, refl, sym, ap, subst, ◌∙◌, arith, length-append, if◌then◌else◌}
+use Rattle.std.proofs.Common.{◌≡◌, ◌⊎◌, inl, inr, ℕ, suc, ◌<◌, Bool, true, false, List, [], ◌∷◌, ◌++◌, Option, Some, None, slice_get, length, refl, sym, ap, subst, ◌∙◌, arith, length-append, if◌then◌else◌}
 use Rattle.std.specs.Prelude.{IsSome}
 use Rattle.std.proofs.lemmas.Bool.{false≢true, false_from_ne_true}
 use Rattle.fk_syntax.specs.declared.facts.Facts.{Facts}
-use Rattle.fk_syntax.specs.declared.facts.Kind.{Kind}
 use Rattle.fk_syntax.specs.declared.place.Place.{Place}
 use Rattle.fk_syntax.specs.declared.program.Mode.TheVariants.{Async}
 use Rattle.fk_syntax.specs.Program.{Statements, FunctionTree, ItemTree, ProgramTree, StructItem, VariablesItem, FunctionItem}
@@ -19,12 +18,10 @@ use Rattle.fk_types_names.specs.Outline.{DeclarationTree, Variable, Header, decl
 use Rattle.fk_types_operators.specs.declared.values.Value.TheVariants.{Unsigned}
 use Rattle.fk_types_operators.specs.declared.values.ExpressionType.TheVariants.{Stored, Computed}
 use Rattle.fk_regions.specs.declared.around.Holder.TheVariants as h
-use Rattle.fk_regions.specs.declared.around.Region.{Region}
 use Rattle.fk_regions.specs.declared.around.Region.TheVariants.{Synchronous, Asynchronous}
 use Rattle.fk_regions.specs.declared.token.Word.TheVariants as w
 use Rattle.fk_regions.specs.Tokens as r
 use Rattle.fk_layout.specs.Layout.{tables_by}
-use Rattle.fk_compile_text.specs.Text.{HasTree}
 use Rattle.fk_check_laws.specs.Correct.{IsCorrect}
 use Rattle.fk_check_laws.proofs.Each.{Each, one_of}
 use Rattle.fk_check_laws.proofs.Declared.{function_number}

@@ -1,15 +1,15 @@
 -- The items of the lock come first in the tree.
-use Rattle.std.proofs.Common.{◌≡◌, ℕ, ◌<◌, true, List, [], ◌∷◌, ◌++◌, Result, Ok, Err, length, refl, sym, ap, subst, ◌∙◌, arith}
-use Rattle.fk_syntax.specs.Program.{ItemTree, ProgramTree, FunctionItem}
+use Rattle.std.proofs.Common.{◌≡◌, true, List, [], ◌∷◌, ◌++◌, Ok, Err, refl, sym, ap, ◌∙◌, arith}
+use Rattle.fk_syntax.specs.Program.{ItemTree, FunctionItem}
 use Rattle.fk_lex.specs.Reading.{Spelled}
 use Rattle.fk_parse_combinators.specs.declared.limits.TheConstants.{LEVELS}
 use Rattle.fk_parse_combinators.specs.Kinds.{just}
 use Rattle.fk_parse_combinators.specs.Languages.{Placed, numbered}
-use Rattle.fk_parse_combinators.specs.Reads.{Stop, Answer}
+use Rattle.fk_parse_combinators.specs.Reads.{Answer}
 use Rattle.fk_parse_combinators.specs.Readers.{Reader, after, next_is, repeated, repeated_within}
 use Rattle.fk_parse_combinators.proofs.Repeats.{Going, going_start, going_more}
 use Rattle.fk_expr.specs.Reading.{inner}
-use Rattle.fk_parse.specs.Parses.{ReadsText, SpellsProgram}
+use Rattle.fk_parse.specs.Parses.{ReadsText}
 use Rattle.fk_parse.specs.Reading.{begins_item, read_item, read_body, read_items, ended, read_text}
 use Rattle.fk_parse.proofs.Texts.{reads_text, one_text}
 use Rattle.fk_locks_tokens.specs.Tokens.{lock_tokens}

@@ -1,5 +1,5 @@
 -- The tokens of the lock with their indices.
-use Rattle.std.proofs.Common.{ℕ, false, List, [], ◌∷◌, codes}
+use Rattle.std.proofs.Common.{ℕ, false, List, ◌∷◌, codes}
 use Rattle.fk_lex.specs.declared.token.TokenKind.{TokenKind}
 use Rattle.fk_lex.specs.declared.token.TokenKind.TheVariants as kind
 use Rattle.fk_parse_combinators.specs.Languages.{Placed}

@@ -1,5 +1,5 @@
 -- The functions of the lock are read.
-use Rattle.std.proofs.Common.{◌≡◌, ℕ, List, Option, Ok, refl}
+use Rattle.std.proofs.Common.{◌≡◌, List, Ok, refl}
 use Rattle.fk_syntax.specs.Program.{FunctionItem}
 use Rattle.fk_parse_combinators.specs.Languages.{Placed}
 use Rattle.fk_parse_combinators.specs.Kinds.{just}

@@ -6,7 +6,7 @@ use Rattle.fk_syntax.specs.declared.sign.Sign.TheVariants.{Ampersand, NotEqualTo
 use Rattle.fk_syntax.specs.Tree.{Named, BaseType, Unsigned, Void, Struct, Tree, Number, Variable}
 use Rattle.fk_syntax.specs.Tree.{Prefix, Chain, Postfix, no_links, link, no_trees, tree}
 use Rattle.fk_syntax.specs.Tree.{no_suffixes, call, arrow}
-use Rattle.fk_syntax.specs.Program.{DeclaredTree, Statement, Empty, Expression, Declare, While}
+use Rattle.fk_syntax.specs.Program.{DeclaredTree, Empty, Expression, Declare, While}
 use Rattle.fk_syntax.specs.Program.{Statements, no_statements, statement, FunctionTree, ItemTree}
 use Rattle.fk_syntax.specs.Program.{StructItem, FunctionItem, ProgramTree}
 use Rattle.fk_lex.specs.Reading.{Spelled}
