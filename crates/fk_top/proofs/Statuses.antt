@@ -1,7 +1,7 @@
 -- Which statuses the outcomes of a command have.
 use Rattle.std.proofs.Common.{◌≡◌, ℕ, ◌^◌, ◌<◌, ◌≤◌, Bool, true, false, cond, List, [], ◌∷◌, Option, Some, None, sym, subst, arith, inl, inr}
 use Rattle.std.specs.Str.Parse.{digits_value}
-use Rattle.fk_num.specs.Numeral.{is_numeral, read_word}
+use Rattle.fk_num.specs.Numeral.{if_word, is_numeral, read_word}
 use Rattle.fk_image.specs.declared.Image.{Image}
 use Rattle.fk_machine.specs.declared.stand.Stand.{Stand}
 use Rattle.fk_machine.specs.declared.stand.Stand.TheVariants.{Running, Finished, Faulted, Trapped}
