@@ -1,5 +1,5 @@
 -- The state that a `State` holds.
-use Rattle.std.specs.Prelude.{List, map, slice_index, None}
+use Rattle.std.specs.Prelude.{List, map, reverse, slice_index, None}
 use Rattle.fk_meaning_store.specs.declared.store.Store32.{Store32}
 use Rattle.fk_meaning_store.specs.View.{store_of}
 use Rattle.fk_tree.specs.declared.tree.Tree.{Tree}
@@ -18,9 +18,10 @@ setting_of s = record { processors = s.processors; globals = s.globals; inputs =
 abbrev pub level_of : Level → processors.Level
 level_of l = record { number = l.number; rank = l.rank; size = l.size; space = l.space }
 
+-- the lists of the code have the last value, the innermost level and the last call at their end
 abbrev pub call_of : Call → processors.Call
 call_of c = record {
-  values = c.values.items;
+  values = reverse c.values.items;
   privates = slice_index c.privates.items;
   frames = slice_index c.frames.items;
 }
@@ -29,9 +30,9 @@ abbrev pub processor_of : Processor → processors.Processor
 processor_of p = record {
   number = p.number;
   level = level_of p.level;
-  outer = map level_of p.outer.items;
+  outer = reverse (map level_of p.outer.items);
   call = call_of p.call;
-  callers = map call_of p.callers.items;
+  callers = reverse (map call_of p.callers.items);
   own = slice_index p.own.items;
   top = p.top;
 }

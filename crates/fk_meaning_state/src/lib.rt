@@ -8,4 +8,5 @@ mod state;
 
 pub use beginning::opening;
 pub use processor::{Call, Level, Processor};
+pub use setting::Setting;
 pub use state::State;

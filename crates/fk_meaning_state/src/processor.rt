@@ -25,7 +25,7 @@ pub struct Level {
 /// The call of a function.
 #[derive(Drop)]
 pub struct Call {
-    /// The value list, the last value first.
+    /// The value list, the last value at its end.
     pub values: Vec<u32>,
     /// Its private words. All words after these are 0.
     pub privates: Vec<u32>,
@@ -41,11 +41,11 @@ pub struct Processor {
     pub number: u32,
     /// Its level in the innermost group.
     pub level: Level,
-    /// Its levels in the groups around it, the innermost first.
+    /// Its levels in the groups around it, the innermost at the end.
     pub outer: Vec<Level>,
     /// The running call.
     pub call: Call,
-    /// The calls that wait for it, the last one first.
+    /// The calls that wait for it, the last one at the end.
     pub callers: Vec<Call>,
     /// Its private variables of file scope.
     pub own: Vec<u32>,
@@ -84,7 +84,7 @@ impl Call {
 impl Processor {
     /// A processor at the beginning of `main`, given the initial values of the private variables of
     /// file scope.
-    fn first(
+    pub fn first(
         alloc: Global,
         setting: Setting,
         firsts: &[u32],
