@@ -1,0 +1,4 @@
+pub mod Answers
+pub mod Paced
+pub mod Moments
+pub mod Laws
