@@ -23,6 +23,7 @@ import groups
 import splits
 from programs import FAULTS_OF_RUNS, PROGRAMS
 from runs import runs
+from tally import tell
 from texts import FAULTS, NO_TOKENS, OPENERS, TEXTS
 
 TOP = Path(__file__).resolve().parent.parent
@@ -1044,22 +1045,17 @@ def faults(program, row, folder):
 
 def main():
     program = str(Path(sys.argv[1]).resolve()) if len(sys.argv) > 1 else str(TOP / "fork95")
-    failed = 0
+    failed = []
     with tempfile.TemporaryDirectory() as folder:
         for name, content in FILES.items():
             Path(folder, name).write_bytes(content)
         for row in ROWS:
             found = list(faults(program, row, folder))
-            failed += bool(found)
-            if found:
-                print("fork95", *row.words, ":", "; ".join(found))
+            failed += [f"fork95 {' '.join(map(str, row.words))} : {'; '.join(found)}"] if found else []
         for name, harts, given in OWN_IMAGES:
             fault = fault_of_image(program, folder, name, harts, given)
-            failed += bool(fault)
-            if fault:
-                print(name, ":", fault)
-    print(f"{len(ROWS) + len(OWN_IMAGES) - failed} passed, {failed} failed")
-    return 1 if failed else 0
+            failed += [f"{name} : {fault}"] if fault else []
+    return tell(len(ROWS) + len(OWN_IMAGES), failed)
 
 
 if __name__ == "__main__":

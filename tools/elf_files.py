@@ -19,6 +19,7 @@ from pathlib import Path
 sys.dont_write_bytecode = True
 from commands import elf_header
 from riscv_texts import disassembled, translated
+from tally import tell
 
 TOP = Path(__file__).resolve().parent.parent
 SECONDS = 120
@@ -98,11 +99,7 @@ def main():
     with tempfile.TemporaryDirectory() as folder:
         rows = {it.stem: fault_of(program, it, folder) for it in sorted((TOP / "examples").glob("*.f95"))}
         rows |= {f"a linker's {it.name}": fault_of_linked(program, it, folder) for it in linked(folder)}
-    failed = {row: fault for row, fault in rows.items() if fault}
-    for row, fault in failed.items():
-        print(f"{row}: {fault}")
-    print(f"{len(rows) - len(failed)} passed, {len(failed)} failed")
-    return 1 if failed else 0
+    return tell(len(rows), [f"{row}: {fault}" for row, fault in rows.items() if fault])
 
 
 if __name__ == "__main__":

@@ -12,6 +12,9 @@ import subprocess
 import sys
 from pathlib import Path
 
+sys.dont_write_bytecode = True
+from tally import tell
+
 TOP = Path(__file__).resolve().parent.parent
 SECONDS = 120
 FAULTED = 6
@@ -120,11 +123,7 @@ def main():
     for page in ("README.md", "docs/TUTORIAL.md"):
         for command in commands_of(page):
             rows[f"{page}: {command}"] = fault_of_command(command, program)
-    failed = {row: fault for row, fault in rows.items() if fault}
-    for row, fault in failed.items():
-        print(f"{row}: {fault}")
-    print(f"{len(rows) - len(failed)} passed, {len(failed)} failed")
-    return 1 if failed else 0
+    return tell(len(rows), [f"{row}: {fault}" for row, fault in rows.items() if fault])
 
 
 if __name__ == "__main__":

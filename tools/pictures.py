@@ -12,6 +12,7 @@ from pathlib import Path
 TOP = Path(__file__).resolve().parent
 sys.path.insert(0, str(TOP))
 import picture  # noqa: E402
+from tally import tell  # noqa: E402
 
 PARTS = TOP / "traces" / "parts.trace"
 # For some cycles of parts.trace what each of the six harts shows: a depth, or w where it waits.
@@ -86,14 +87,9 @@ def outcomes(folder):
 
 
 def main():
-    passed = failed = 0
     with tempfile.TemporaryDirectory() as folder:
-        for name, holds in outcomes(Path(folder)):
-            passed, failed = passed + holds, failed + (not holds)
-            if not holds:
-                print("failed:", name)
-    print(f"{passed} passed, {failed} failed")
-    return 1 if failed else 0
+        found = list(outcomes(Path(folder)))
+    return tell(len(found), [f"failed: {name}" for name, holds in found if not holds])
 
 
 if __name__ == "__main__":

@@ -9,6 +9,9 @@ import re
 import sys
 from pathlib import Path
 
+sys.dont_write_bytecode = True
+from tally import tell
+
 TOP = Path(__file__).resolve().parent.parent
 LEFT_OUT = "[..]"
 
@@ -25,10 +28,7 @@ def main():
     there = {line.rstrip() for file in files for line in file.read_text(encoding="utf-8").split("\n")}
     lines = quoted_lines()
     missing = [line for line in lines if line.rstrip() not in there]
-    for line in missing:
-        print(f"docs/PROOF.md quotes what stands nowhere: {line}")
-    print(f"{len(lines) - len(missing)} passed, {len(missing)} failed")
-    return 1 if missing else 0
+    return tell(len(lines), [f"docs/PROOF.md quotes what stands nowhere: {line}" for line in missing])
 
 
 if __name__ == "__main__":

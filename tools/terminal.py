@@ -13,6 +13,9 @@ import sys
 import tempfile
 from pathlib import Path
 
+sys.dont_write_bytecode = True
+from tally import tell
+
 TOP = Path(__file__).resolve().parent.parent
 SCRIPT = str(TOP / "fork95")
 RUN = ["--harts", "1", "--cycles", "1000"]
@@ -120,11 +123,7 @@ def main():
         faults += [fault_on_terminal(row, folder) for row in TYPED]
         faults += [fault_in_plain(row, folder) for row in PLAIN]
     faults.append(fault_in_table())
-    for fault in filter(None, faults):
-        print(fault)
-    failed = sum(1 for fault in faults if fault)
-    print(f"{len(faults) - failed} passed, {failed} failed")
-    return 1 if failed else 0
+    return tell(len(faults), [fault for fault in faults if fault])
 
 
 if __name__ == "__main__":

@@ -21,6 +21,9 @@ import sys
 import tempfile
 from pathlib import Path
 
+sys.dont_write_bytecode = True
+from tally import tell
+
 TOP = Path(__file__).resolve().parent.parent
 MASK = 0xFFFFFFFF
 NAMES = ("split", "shrink", "end", "resume", "meet", "agree")
@@ -394,11 +397,8 @@ def compare(program):
             if told != expected:
                 failed.append(f"{text}: {told}")
     failed += [f"no {name} was seen" for name in NAMES if name not in seen]
-    for text in failed:
-        print("failed:", text)
     count = len(RUNS) + len(EXAMPLES) + len(EVENTS) + len(NAMES)
-    print(f"{count - len(failed)} passed, {len(failed)} failed")
-    return 1 if failed else 0
+    return tell(count, [f"failed: {text}" for text in failed])
 
 
 def main():

@@ -12,7 +12,8 @@ for a limit of the prover.
 What is to be proved of a function rests on its own body and on the contracts of what it calls. Edits of a crate that
 change the bodies of different functions are therefore tried together, and further edits of a function in further rounds.
 What isn't told so is tried alone, as are edits of definitions: the prover is asked of the function whose contract cites the
-definition most directly, and then of all those whose contracts rest on it. With --alone all edits are tried alone.
+definition most directly, then of all those whose contracts rest on it, and at last of the whole crate. With --alone all
+edits are tried alone.
 
 What was refused stays so while its crate and the specs, signatures and contracts below it stay the same. So it is kept in
 tools/out at once, by the checksum of all these and of the edit, but for comments. It isn't tried again, whatever prover
@@ -256,9 +257,13 @@ def try_bodies(room, crate, asked, edits, alone):
 
 
 def try_definition(room, crate, edit, functions):
-    """Tries an edit of definitions: asks of the function that cites them most directly, and if that is proved, of all."""
+    """Tries an edit of definitions: asks of the function that cites them most directly, and then of more, as far as needed.
+
+    These are all functions whose contracts rest on them, and at last the whole crate with all its lemmas.
+    """
     tried = Try(PROVED, 0.0)
-    for asked in (functions[:1], functions) if len(functions) > 1 else (functions,):
+    stages = [stage for stage in (functions[:1], functions[1:]) if stage]
+    for asked in [*stages, []]:
         if tried.reason == PROVED:
             lines, changed, seconds = check_edited(room, crate, [edit], asked)
             tried = Try(reason_of(lines, changed), tried.seconds + seconds)

@@ -1,6 +1,6 @@
 //! Words that are touched twice in a cycle.
 
-ghost use Rattle.std.specs.Prelude.{◌≡◌, ◌≢◌, ℕ, ◌<◌, ◌≤◌, ◌+◌, ◌^◌, ◌==◌, ◌&&◌, All, Some};
+ghost use Rattle.std.specs.Prelude.{◌≡◌, ◌≢◌, ℕ, ◌<◌, ◌≤◌, ◌+◌, ◌^◌, ◌==◌, ◌&&◌, All};
 ghost use Rattle.std.specs.Prelude.{if◌then◌else◌, length, slice_index, slice_set};
 ghost use Rattle.fk_audit.specs.declared.access.AccessKind.TheVariants as kind;
 ghost use Rattle.fk_audit.specs.Mark.{IsLeast, IsMark, counted, is_counted, lesser};

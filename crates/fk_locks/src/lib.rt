@@ -2,6 +2,7 @@
 //! exclude each other.
 #![tactic(auto)]
 
+pub mod laws;
 mod text;
 
 pub use text::{lock_text, with_lock};

@@ -2,7 +2,7 @@
 
 ghost use Rattle.std.specs.Prelude.{◌≡◌, ◌++◌, length, IfOk};
 ghost use Rattle.arrayvec.specs.ArrayVec.{array_vec_len};
-ghost use Rattle.fk_locks.specs.Text.{lock_bytes};
+ghost use Rattle.fk_locks_tokens.specs.Text.{lock_bytes};
 
 use arrayvec::ArrayVec;
 use std::alloc::{AllocError, Global};

@@ -5,7 +5,7 @@ use Rattle.fk_meaning_store.specs.declared.request.Request.{Request}
 use Rattle.fk_meaning_store.specs.declared.request.Request.TheVariants.{Read, Multi}
 use Rattle.fk_meaning.specs.Processor.{Setting}
 use Rattle.fk_meaning.specs.Round.{Step, State, Round, Acting, asking, result}
-use Rattle.fk_meaning.specs.Schedule.{Schedule, run}
+use Rattle.fk_meaning.specs.Schedule.{Schedule}
 use Rattle.fk_meaning.specs.Touch.{touch, answer, Touches, last_of}
 use Rattle.fk_tickets.specs.Lock.{Act, Draw, Look, Give, Event, Lock, IsFair, IsInside, Enters}
 use Rattle.fk_tickets.specs.Lock.{after, event, opening}
@@ -71,12 +71,11 @@ module _ {W : Type 0} (next : W → Option (Step W)) (setting : Setting) where
         → last_of (result next setting round s).runners h
         ≡ Some (answer q (lock_before round s x h l).now)
 
-  -- no round of a schedule has a fault, and all its requests on the two words are those of a lock
+  -- all requests on the two words are those of a lock
   abbrev pub IsUsed : (x : ℕ) → Schedule → State W → Type 0
   IsUsed x [] s = Unit {0}
   IsUsed x (round ∷ schedule) s =
-      ((result next setting round s).fault ≡ None) × AreOfLock x (asked round s)
-      × IsUsed x schedule (result next setting round s)
+      AreOfLock x (asked round s) × IsUsed x schedule (result next setting round s)
 
   -- the events of a run, one after the other
   abbrev pub history : (x : ℕ) → Schedule → State W → List Event
@@ -91,8 +90,16 @@ module _ {W : Type 0} (next : W → Option (Step W)) (setting : Setting) where
     pub used : IsUsed x schedule s
     pub in_turn : IsFair processors (history x schedule s)
 
+  -- as long as no round has a fault, the words and the answers are those of the lock after the events
+  abbrev pub Tells : (x : ℕ) → Schedule → State W → Lock → Type 0
+  Tells x [] s l = Unit {0}
+  Tells x (round ∷ schedule) s l =
+      (result next setting round s).fault ≡ None
+      → UsesLock round s x l
+      × Tells x schedule (result next setting round s) (fold after l (events x (asked round s)))
+
   pub record Excludes (x : ℕ) (schedule : Schedule) (s : State W) : Type 0 where
-    pub words : AreWords x (fold after opening (history x schedule s)) (run next setting schedule s)
+    pub tells : Tells x schedule s opening
     pub one : (k g h : ℕ) → IsInside (history x schedule s) k g
         → IsInside (history x schedule s) k h → g ≡ h
     pub order : (g h i j k m : ℕ) → Enters (history x schedule s) g i k

@@ -1,6 +1,7 @@
 //! Handmade ELF files of images.
 
 use crate::image::{ONE_COMMIT, ONE_OF_EACH};
+use crate::refused::Refused;
 use fk_elf::{ElfFault, read_elf, write_elf};
 use fk_image::{Image, read_image, write_image};
 use std::alloc::{AllocError, Global};
@@ -47,16 +48,6 @@ fn files_are_written_and_read_back(rt: HostRuntime) -> Result<(), Fail> {
         "one of each"
     );
     Ok(())
-}
-
-/// Bytes that aren't a file: the first `length` bytes of `of`, with zeros after them if that is
-/// more, and with one byte replaced. `why` is the reason of the refusal.
-struct Refused {
-    of: &'static [u8],
-    length: usize,
-    at: usize,
-    byte: u8,
-    why: &'static str,
 }
 
 static REFUSED: [Refused; 10] = [
@@ -138,22 +129,12 @@ static REFUSED: [Refused; 10] = [
     },
 ];
 
-// Whether the text of a fault is this one.
-fn is_told(alloc: Global, fault: &ElfFault, why: &str) -> Result<bool, AllocError> {
-    let text = format!(in alloc; "{fault}")?;
-    Ok(text.as_str() == why)
-}
-
 // Whether bytes are refused for the expected reason.
 fn is_refused(alloc: Global, row: &Refused) -> Result<bool, AllocError> {
-    let mut bytes = Vec::from_slice(alloc, row.of)?;
-    bytes.resize(row.length, 0)?;
-    if row.at < bytes.len() {
-        bytes[row.at] = row.byte;
-    }
+    let bytes = row.bytes(alloc)?;
     match read_elf(alloc, &bytes) {
         Ok(_) => Ok(false),
-        Err(fault) => is_told(alloc, &fault, row.why),
+        Err(fault) => row.is_reason(alloc, &fault),
     }
 }
 

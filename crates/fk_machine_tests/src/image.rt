@@ -1,6 +1,7 @@
 //! Handmade bytes of images.
 
-use fk_image::{ImageFault, read_image, write_image};
+use crate::refused::Refused;
+use fk_image::{read_image, write_image};
 use std::alloc::{AllocError, Global};
 use std::test::Fail;
 
@@ -76,16 +77,6 @@ fn images_are_read_and_written_back(rt: HostRuntime) -> Result<(), Fail> {
     Ok(())
 }
 
-/// Bytes that aren't an image: the first `length` bytes of `of`, with zeros after them if that is
-/// more, and with one byte replaced. `why` is the reason of the refusal.
-struct Refused {
-    of: &'static [u8],
-    length: usize,
-    at: usize,
-    byte: u8,
-    why: &'static str,
-}
-
 static REFUSED: [Refused; 8] = [
     Refused {
         of: &ONE_WORD,
@@ -146,22 +137,12 @@ static REFUSED: [Refused; 8] = [
     },
 ];
 
-// Whether the text of a fault is this one.
-fn is_told(alloc: Global, fault: &ImageFault, why: &str) -> Result<bool, AllocError> {
-    let text = format!(in alloc; "{fault}")?;
-    Ok(text.as_str() == why)
-}
-
 // Whether bytes are refused for the expected reason.
 fn is_refused(alloc: Global, row: &Refused) -> Result<bool, AllocError> {
-    let mut bytes = Vec::from_slice(alloc, row.of)?;
-    bytes.resize(row.length, 0)?;
-    if row.at < bytes.len() {
-        bytes[row.at] = row.byte;
-    }
+    let bytes = row.bytes(alloc)?;
     match read_image(alloc, &bytes) {
         Ok(_) => Ok(false),
-        Err(fault) => is_told(alloc, &fault, row.why),
+        Err(fault) => row.is_reason(alloc, &fault),
     }
 }
 

@@ -21,3 +21,5 @@ mod machine;
 mod num;
 #[cfg(test)]
 mod ports;
+#[cfg(test)]
+mod refused;

@@ -1,12 +1,11 @@
 -- The rounds of the trace of a run are the counts that its harts commit.
-use Rattle.std.proofs.Common.{◌≡◌, ◌≢◌, ℕ, zero, suc, ◌+◌, ◌<◌, ◌≤◌, Bool, true, false, ◌&&◌, not, nat_le, List, [], ◌∷◌, ◌++◌, Some, None, filter, length, map, refl, sym, ap, ap₂, ◌∙◌, subst, arith, eqb-true, ne_eqb}
+use Rattle.std.proofs.Common.{◌≡◌, ℕ, zero, suc, ◌+◌, ◌<◌, ◌≤◌, Bool, true, false, List, [], ◌∷◌, ◌++◌, length, map, refl, sym, ap, ap₂, ◌∙◌, arith, eqb-true, ne_eqb}
 use Rattle.std.specs.Prelude.{◌==◌, if◌then◌else◌}
 use Rattle.std.proofs.lemmas.Bool.Decides.{nat_tests}
 use Rattle.fk_image.specs.declared.event.Event.{Event}
-use Rattle.fk_trace.specs.declared.column.Column.{Column}
 use Rattle.fk_trace.specs.declared.column.Column.TheVariants.{Counts, Of}
-use Rattle.fk_trace.specs.Text.{Commit, Commits, Range, all_events, joined, number_in, occurs, ranges, shows}
-use Rattle.fk_replay_text.specs.Trace.{Told, moments_of, with_moment}
+use Rattle.fk_trace.specs.Text.{Commits, Range, all_events, joined, number_in, occurs, ranges, shows}
+use Rattle.fk_replay_text.specs.Trace.{Told, moments_of}
 use Rattle.fk_replay_text.specs.Rounds.{RoundsAreCounts, count_in, counts_from, ranges_at, round_of, rounds_from}
 use Rattle.fk_replay_text.specs.Written.{AreCycles, shown_ranges, told_events, told_from, told_if}
 use Rattle.fk_replay_text.proofs.Written.{Tiles, shown, tiles}

@@ -1,6 +1,6 @@
 -- What the fields of a line spell.
-use Rattle.std.proofs.Common.{◌≡◌, ◌≢◌, ℕ, zero, suc, ◌^◌, ◌<◌, ◌≤◌, Bool, true, false, not, List, [], ◌∷◌, ◌++◌, refl, sym, ap, ◌∙◌, arith, append_assoc, append-nil, eq-eqb}
-use Rattle.std.specs.Prelude.{◌==◌, if◌then◌else◌, codes, decimal}
+use Rattle.std.proofs.Common.{◌≡◌, ◌≢◌, ℕ, ◌^◌, ◌<◌, ◌≤◌, true, false, List, [], ◌∷◌, ◌++◌, refl, sym, ap, ◌∙◌, arith, append_assoc, append-nil, eq-eqb}
+use Rattle.std.specs.Prelude.{◌==◌, codes, decimal}
 use Rattle.std.proofs.lemmas.Bool.{ne_eqb}
 use Rattle.std.proofs.lemmas.Fmt.{decimal_injective}
 use Rattle.fk_image.specs.Events.{event_number}
@@ -8,7 +8,7 @@ use Rattle.fk_image.specs.declared.event.Event.{Event}
 use Rattle.fk_image.specs.declared.event.Event.TheVariants.{Split, Shrink, End, Resume, Meet, Agree}
 use Rattle.fk_trace.specs.declared.column.Column.{Column}
 use Rattle.fk_trace.specs.declared.column.Column.TheVariants.{Counts, Of}
-use Rattle.fk_trace.specs.Text.{Range, range_text, count_text, shows}
+use Rattle.fk_trace.specs.Text.{Range, range_text}
 use Rattle.fk_replay_text.specs.Texts.{Lacks, IsCut}
 use Rattle.fk_replay_text.specs.Fields.{field_text, HasOwnNumber, SpellsRange}
 use Rattle.fk_replay_text.specs.Trace.{HasNumber, IsRange}

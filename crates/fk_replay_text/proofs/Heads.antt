@@ -1,6 +1,6 @@
 -- The beginnings of lines.
-use Rattle.std.proofs.Common.{◌≡◌, ◌≢◌, ℕ, ◌+◌, ◌*◌, ◌^◌, ◌<◌, ◌≤◌, List, [], ◌∷◌, ◌++◌, length, get_or, refl, sym, ap, ◌∙◌, subst, arith, append_assoc}
-use Rattle.std.specs.Prelude.{codes, decimal}
+use Rattle.std.proofs.Common.{◌≡◌, ℕ, ◌+◌, ◌*◌, ◌^◌, ◌<◌, List, ◌∷◌, ◌++◌, length, get_or, refl, sym, ap, ◌∙◌, arith, append_assoc}
+use Rattle.std.specs.Prelude.{codes, decimal, ◌==◌, if◌then◌else◌}
 use Rattle.std.proofs.lemmas.Fmt.{decimal_injective}
 use Rattle.fk_image.specs.declared.event.Event.{Event}
 use Rattle.fk_image.specs.declared.event.Event.TheVariants.{Split, Shrink, End, Resume, Meet, Agree}
@@ -29,50 +29,23 @@ name_lacks_newline Resume = lacks_by 10 (name_of Resume) refl
 name_lacks_newline Meet = lacks_by 10 (name_of Meet) refl
 name_lacks_newline Agree = lacks_by 10 (name_of Agree) refl
 
--- a number that tells names apart
-abbrev sign : List ℕ → ℕ
-sign name = length name * 1000 + get_or name 0 0
+-- the event of a name, by its length and first letter
+abbrev event_named : List ℕ → Event
+event_named name =
+    let sign = length name * 1000 + get_or name 0 0 in
+    if sign == 5115 then Split else if sign == 6115 then Shrink else if sign == 3101 then End
+    else if sign == 6114 then Resume else if sign == 4109 then Meet else Agree
 
-same_event : (a b : Event) → sign (name_of a) ≡ sign (name_of b) → a ≡ b
-same_event Split Split e = refl
-same_event Split Shrink e = absurd (omega arith)
-same_event Split End e = absurd (omega arith)
-same_event Split Resume e = absurd (omega arith)
-same_event Split Meet e = absurd (omega arith)
-same_event Split Agree e = absurd (omega arith)
-same_event Shrink Split e = absurd (omega arith)
-same_event Shrink Shrink e = refl
-same_event Shrink End e = absurd (omega arith)
-same_event Shrink Resume e = absurd (omega arith)
-same_event Shrink Meet e = absurd (omega arith)
-same_event Shrink Agree e = absurd (omega arith)
-same_event End Split e = absurd (omega arith)
-same_event End Shrink e = absurd (omega arith)
-same_event End End e = refl
-same_event End Resume e = absurd (omega arith)
-same_event End Meet e = absurd (omega arith)
-same_event End Agree e = absurd (omega arith)
-same_event Resume Split e = absurd (omega arith)
-same_event Resume Shrink e = absurd (omega arith)
-same_event Resume End e = absurd (omega arith)
-same_event Resume Resume e = refl
-same_event Resume Meet e = absurd (omega arith)
-same_event Resume Agree e = absurd (omega arith)
-same_event Meet Split e = absurd (omega arith)
-same_event Meet Shrink e = absurd (omega arith)
-same_event Meet End e = absurd (omega arith)
-same_event Meet Resume e = absurd (omega arith)
-same_event Meet Meet e = refl
-same_event Meet Agree e = absurd (omega arith)
-same_event Agree Split e = absurd (omega arith)
-same_event Agree Shrink e = absurd (omega arith)
-same_event Agree End e = absurd (omega arith)
-same_event Agree Resume e = absurd (omega arith)
-same_event Agree Meet e = absurd (omega arith)
-same_event Agree Agree e = refl
+named : (event : Event) → event_named (name_of event) ≡ event
+named Split = refl
+named Shrink = refl
+named End = refl
+named Resume = refl
+named Meet = refl
+named Agree = refl
 
 pub name_once : (a b : Event) → name_of a ≡ name_of b → a ≡ b
-name_once a b e = same_event a b (ap sign e)
+name_once a b e = sym (named a) ∙ ap event_named e ∙ named b
 
 -- ---- heads
 

@@ -1,7 +1,7 @@
 -- The lines behind the first two, as far as they were read.
-use Rattle.std.proofs.Common.{◌≡◌, ◌≢◌, ℕ, suc, ◌+◌, ◌-◌, ◌^◌, ◌<◌, ◌≤◌, List, [], ◌∷◌, ◌++◌, length, map, refl, sym, ap, ◌∙◌, subst, arith, length-append}
+use Rattle.std.proofs.Common.{◌≡◌, ℕ, ◌+◌, ◌-◌, ◌^◌, ◌<◌, ◌≤◌, List, [], ◌∷◌, ◌++◌, length, refl, sym, ap, ◌∙◌, arith, length-append}
 use Rattle.fk_trace.specs.Text.{Range, last_line}
-use Rattle.fk_replay_text.specs.Texts.{Lacks, IsCut}
+use Rattle.fk_replay_text.specs.Texts.{IsCut}
 use Rattle.fk_replay_text.specs.Lines.{IsBadLine}
 use Rattle.fk_replay_text.specs.Trace.{Follows, HasBody, IsBody, IsLine, Told, moments_of, rank, told_text}
 use Rattle.fk_replay_text.specs.BodyView.{IsBadBody}

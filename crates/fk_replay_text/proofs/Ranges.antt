@@ -1,10 +1,10 @@
 -- The ranges of a line, read one by one.
-use Rattle.std.proofs.Common.{◌≡◌, ◌≢◌, ℕ, ◌+◌, ◌^◌, ◌<◌, ◌≤◌, List, [], ◌∷◌, ◌++◌, Option, Some, None, length, refl, sym, ap, ◌∙◌, subst, arith, append-nil, append_assoc}
+use Rattle.std.proofs.Common.{◌≡◌, ◌≢◌, ℕ, ◌+◌, ◌^◌, ◌<◌, List, [], ◌∷◌, ◌++◌, Option, Some, None, length, refl, sym, ap, ◌∙◌, subst, arith, append-nil, append_assoc}
 use Rattle.std.specs.Prelude.{flat_map}
 use Rattle.std.proofs.lemmas.Grind.{flat_map-append}
 use Rattle.fk_trace.specs.declared.column.Column.{Column}
 use Rattle.fk_trace.specs.Text.{Range, range_text}
-use Rattle.fk_replay_text.specs.Texts.{Lacks, Stops, IsWord}
+use Rattle.fk_replay_text.specs.Texts.{Stops, IsWord}
 use Rattle.fk_replay_text.specs.Fields.{field_text, SpellsRange}
 use Rattle.fk_replay_text.specs.Trace.{AreRanges, ComesAfter, IsRange, Rise}
 use Rattle.fk_replay_text.proofs.Cutting.{word_once}

@@ -1,11 +1,11 @@
 -- The lines of a trace.
-use Rattle.std.proofs.Common.{◌≡◌, ◌≢◌, ℕ, ◌+◌, ◌^◌, ◌<◌, ◌≤◌, List, [], ◌∷◌, ◌++◌, Option, Some, None, get_or, refl, sym, ap, ◌∙◌, subst, arith, append_assoc}
+use Rattle.std.proofs.Common.{◌≡◌, ◌≢◌, ℕ, ◌+◌, ◌^◌, ◌<◌, List, [], ◌∷◌, ◌++◌, Option, Some, None, get_or, refl, sym, ap, ◌∙◌, subst, arith, append_assoc}
 use Rattle.std.specs.Prelude.{codes, decimal}
 use Rattle.std.proofs.lemmas.List.{append_cancel_right}
 use Rattle.std.proofs.lemmas.Fmt.{decimal_injective}
 use Rattle.fk_trace.specs.declared.column.Column.{Column}
 use Rattle.fk_trace.specs.declared.column.Column.TheVariants.{Counts, Of}
-use Rattle.fk_trace.specs.Text.{Range, head_text, last_line, name_of}
+use Rattle.fk_trace.specs.Text.{Range, head_text, last_line}
 use Rattle.fk_replay_text.specs.Texts.{Lacks, Stops}
 use Rattle.fk_replay_text.specs.Trace.{IsLine, Rise, Told, told_text}
 use Rattle.fk_replay_text.proofs.Cutting.{lacks_append, lacks_by}

@@ -1,5 +1,5 @@
 -- Whole traces: the first two lines, and the lines behind them.
-use Rattle.std.proofs.Common.{◌⊎◌, inl, inr, Bool, true, false, ◌≡◌, ◌≢◌, ℕ, zero, suc, ◌+◌, ◌-◌, ◌^◌, ◌<◌, ◌≤◌, List, [], ◌∷◌, ◌++◌, length, map, take, refl, sym, ap, ◌∙◌, subst, arith, append-nil, append_assoc}
+use Rattle.std.proofs.Common.{◌⊎◌, inl, inr, Bool, true, false, ◌≡◌, ◌≢◌, ℕ, suc, ◌+◌, ◌-◌, ◌^◌, ◌<◌, ◌≤◌, List, [], ◌∷◌, ◌++◌, take, refl, sym, ap, ◌∙◌, subst, arith, append_assoc}
 use Rattle.std.specs.Prelude.{◌==◌, codes, decimal}
 use Rattle.std.proofs.lemmas.List.{append_cancel_left, append_cancel_right}
 use Rattle.std.proofs.lemmas.Fmt.{decimal_injective}
@@ -9,7 +9,7 @@ use Rattle.fk_replay_text.specs.Lines.{onto_first, lines, GoesOn, IsBadLine}
 use Rattle.fk_replay_text.specs.BodyView.{IsBadBody}
 use Rattle.fk_replay_text.specs.declared.fault.ReplayFault.{ReplayFault}
 use Rattle.fk_replay_text.specs.declared.fault.ReplayFault.TheVariants.{BadTrace, Memory}
-use Rattle.fk_replay_text.specs.Trace.{AreInOrder, HasBody, IsBody, IsTrace, IsTraceText, Told, all_told_text}
+use Rattle.fk_replay_text.specs.Trace.{HasBody, IsBody, IsTrace, IsTraceText, Told}
 use Rattle.fk_replay_text.proofs.Cutting.{lacks_append, lacks_by}
 use Rattle.fk_replay_text.proofs.Decimals.{decimal_lacks}
 use Rattle.fk_replay_text.proofs.Bodies.{full_line, lines_of_cut, no_line}

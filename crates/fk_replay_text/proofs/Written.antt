@@ -1,15 +1,13 @@
 -- The trace of a run is a trace text.
-use Rattle.std.proofs.Common.{◌≡◌, ◌≢◌, ℕ, zero, suc, ◌+◌, ◌^◌, ◌<◌, ◌≤◌, Bool, true, false, not, List, [], ◌∷◌, ◌++◌, Option, Some, None, filter, length, map, refl, sym, ap, ◌∙◌, subst, arith, append_assoc, append-nil, eqb-true, ne_eqb, eq-eqb}
-use Rattle.std.specs.Prelude.{◌==◌, if◌then◌else◌, flat_map}
-use Rattle.std.specs.List.{list_any}
+use Rattle.std.proofs.Common.{◌≡◌, ◌≢◌, ℕ, suc, ◌+◌, ◌^◌, ◌<◌, ◌≤◌, Bool, true, false, List, [], ◌∷◌, ◌++◌, Option, Some, None, filter, length, map, refl, sym, ap, ◌∙◌, subst, arith, append_assoc, append-nil, eqb-true, ne_eqb, eq-eqb}
+use Rattle.std.specs.Prelude.{◌==◌, flat_map}
 use Rattle.std.proofs.lemmas.Grind.{flat_map-append}
 use Rattle.fk_image.specs.Events.{event_number}
 use Rattle.fk_image.specs.declared.event.Event.{Event}
-use Rattle.fk_image.specs.declared.event.Event.TheVariants.{Split, Shrink, End, Resume, Meet, Agree}
 use Rattle.fk_trace.specs.declared.column.Column.{Column}
 use Rattle.fk_trace.specs.declared.column.Column.TheVariants.{Counts, Of}
 use Rattle.fk_trace.specs.Text.{Commit, Commits, Range, all_events, cycle_lines, event_lines, first_lines, head_text, joined, last_line, line_if, lines_from, number_in, occurs, range_text, ranges, shows}
-use Rattle.fk_replay_text.specs.Trace.{AreInOrder, ComesAfter, Follows, HasNumber, IsAbove, IsLine, IsRange, Rise, Told, all_told_text, rank, told_text}
+use Rattle.fk_replay_text.specs.Trace.{AreInOrder, ComesAfter, HasNumber, IsLine, Rise, Told, all_told_text, told_text}
 use Rattle.fk_replay_text.specs.Written.{AreCommits, AreCycles, IsCommit, TracesAreTexts, shown_ranges, told_events, told_from, told_if}
 use Rattle.fk_replay_text.proofs.Fields.{event_small}
 

@@ -2,7 +2,6 @@
 use Rattle.std.specs.Prelude.{◌≡◌, ◌≢◌, ℕ, suc, ◌^◌, ◌<◌, ◌≤◌, List, [], ◌∷◌, ◌++◌, flat_map}
 use Rattle.std.specs.Prelude.{length, Option, Some, None}
 use Rattle.fk_image.specs.Events.{event_number}
-use Rattle.fk_image.specs.declared.event.Event.{Event}
 use Rattle.fk_trace.specs.declared.column.Column.{Column}
 use Rattle.fk_trace.specs.declared.column.Column.TheVariants.{Counts, Of}
 use Rattle.fk_trace.specs.Text.{Range, head_text, range_text, first_lines, last_line}

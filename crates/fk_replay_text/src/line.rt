@@ -1,6 +1,6 @@
 //! The lines of a trace.
 
-ghost use Rattle.std.specs.Prelude.{◌≡◌, ◌≢◌, ◌<◌, ◌≤◌, ◌^◌, ℕ, List, [], ◌∷◌, ◌++◌, codes, map};
+ghost use Rattle.std.specs.Prelude.{◌≡◌, ◌≢◌, ◌<◌, ◌≤◌, ◌^◌, ℕ, List, [], ◌∷◌, ◌++◌, codes};
 ghost use Rattle.std.specs.Prelude.{decimal, IfOk, IfSome, MatchOption};
 ghost use Rattle.fk_image.specs.declared.event.Event as events;
 ghost use Rattle.fk_trace.specs.declared.column.Column as columns;

@@ -1,6 +1,6 @@
 //! Ranges of harts.
 
-ghost use Rattle.std.specs.Prelude.{◌≡◌, ◌≢◌, ◌<◌, ◌≤◌, ◌^◌, ◌↔◌, ℕ, List, flat_map, map};
+ghost use Rattle.std.specs.Prelude.{◌≡◌, ◌≢◌, ◌<◌, ◌↔◌, List, flat_map, map};
 ghost use Rattle.std.specs.Prelude.{IfOk, IsTrue, MatchOption, option_map};
 ghost use Rattle.fk_trace.specs.Text.{Range, range_text};
 ghost use Rattle.fk_replay_text.specs.ColumnView.{column_of};

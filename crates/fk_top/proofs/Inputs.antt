@@ -1,5 +1,5 @@
 -- The numbers of an input text are words, and as few as they may be.
-use Rattle.std.proofs.Common.{◌≡◌, ℕ, ℤ, pos, negsuc, ◌+◌, ◌^◌, ◌<◌, ◌≤◌, Bool, true, false, List, [], ◌∷◌, Option, Some, None, Ok, Err, All, length, map, refl, sym, subst, arith}
+use Rattle.std.proofs.Common.{◌≡◌, ℕ, ℤ, pos, negsuc, ◌+◌, ◌^◌, ◌<◌, ◌≤◌, Bool, true, false, List, [], ◌∷◌, Option, Some, None, Ok, Err, All, length, map, refl, sym, ap, ◌∙◌, subst, arith}
 use Rattle.std.specs.Prelude.{nat_lt, vec_len}
 use Rattle.std.proofs.lemmas.Bool.{ltb-false}
 use Rattle.std.proofs.lemmas.List.{length-map}
@@ -65,6 +65,12 @@ is_input image text numbers limits e =
       room = omega (arith, limits.globals);
       words = subst (All (λ n. n < 2 ^ 32)) (sym (gives _ text numbers e).are) (are_words (words text));
     }
+
+-- so is what is read within a limit that goes by its globals
+pub is_input_within : (image : Image) (text numbers : List ℕ) (limit globals : ℕ) → IsWithinLimits image → limit ≡ most_numbers globals → globals ≡ vec_len image.globals → input_of limit text ≡ Ok numbers
+    → IsInput image numbers
+is_input_within image text numbers limit globals limits limited counted read =
+    is_input image text numbers limits (ap (λ (n : ℕ). input_of n text) (sym (limited ∙ ap most_numbers counted)) ∙ read)
 
 -- the empty text is not refused
 pub none_refused : (image : Image) (fault : InputFault) → numbers_for image [] ≡ Err fault → ⊥

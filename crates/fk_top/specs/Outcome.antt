@@ -10,7 +10,7 @@ use Rattle.fk_elf.specs.Files.{IsElfOf}
 use Rattle.fk_asm.specs.Listing as lines
 use Rattle.fk_top_input.specs.declared.fault.InputFault.{InputFault}
 use Rattle.fk_top_input.specs.Input.{input_of}
-use Rattle.fk_locks.specs.Text.{lock_bytes}
+use Rattle.fk_locks_tokens.specs.Text.{lock_bytes}
 use Rattle.fk_top_words.specs.Arguments.{Text}
 use Rattle.fk_top_words.specs.Command.{Command, Run, Build, Exec, ListCode, Elf}
 use Rattle.fk_top_words.specs.Command.{Unelf, Audit, Trace, Replay, Selftest, Locks}

@@ -1,6 +1,6 @@
 //! The status and the report for a machine's status.
 
-ghost use Rattle.std.specs.Prelude.{◌≡◌, ℕ, Option};
+ghost use Rattle.std.specs.Prelude.{◌≡◌};
 ghost use Rattle.fk_top.specs.Outcome.{fault_report, stand_report, status_of};
 
 use crate::kinds::{FaultKind, TrapKind};

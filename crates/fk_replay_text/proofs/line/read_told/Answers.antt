@@ -1,4 +1,4 @@
-use Rattle.std.proofs.Common.{◌≡◌, ◌<◌, ◌^◌, ap, subst, sym, ◌∙◌, arith}
+use Rattle.std.proofs.Common.{ap, subst, sym, ◌∙◌, arith}
 use Rattle.fk_trace.specs.declared.column.Column.{Column}
 use Rattle.fk_replay_text.specs.ColumnView.{column_of}
 use Rattle.fk_replay_text.specs.Trace.{AreRanges}

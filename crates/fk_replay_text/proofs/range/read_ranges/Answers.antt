@@ -1,8 +1,6 @@
-use Rattle.std.proofs.Common.{IsTrue, ◌≡◌, ◌<◌, ◌^◌, List, [], ◌∷◌, ◌++◌, length, map, option_map, ap, refl, ◌∙◌, arith, rules}
+use Rattle.std.proofs.Common.{IsTrue, ◌≡◌, ◌<◌, List, [], ◌∷◌, ◌++◌, length, map, option_map, ap, refl, ◌∙◌, arith, rules}
 use Rattle.std.proofs.lemmas.List.{length-map, map-append}
-use Rattle.fk_trace.specs.Text.{Range}
 use Rattle.fk_replay_text.specs.ColumnView.{column_of}
-use Rattle.fk_replay_text.specs.Trace.{ComesAfter, IsRange}
 use Rattle.fk_replay_text.specs.View.{range_of}
 use Rattle.fk_replay_text.specs.declared.trace.Acts.{Acts}
 use Rattle.fk_replay_text.proofs.Ranges.{all_read, none_read, other_range, reads_on, refuses}

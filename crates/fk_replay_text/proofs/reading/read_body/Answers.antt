@@ -1,4 +1,4 @@
-use Rattle.std.proofs.Common.{IsTrue, ◌≡◌, ◌<◌, ◌≤◌, ◌^◌, inl, inr, length, map, sym, ◌∙◌, arith, rules}
+use Rattle.std.proofs.Common.{IsTrue, ◌≡◌, ◌<◌, ◌^◌, inr, length, map, arith, rules}
 use Rattle.fk_replay_text.specs.ColumnView.{column_of}
 use Rattle.fk_replay_text.specs.LineView.{told_of}
 use Rattle.fk_replay_text.specs.Trace.{Follows}

@@ -1,4 +1,4 @@
-use Rattle.std.proofs.Common.{refl, inl, inr}
+use Rattle.std.proofs.Common.{refl, inr}
 use Rattle.std.proofs.lemmas.Result.{IfErr-weaker}
 use Rattle.fk_replay_text.proofs.Whole.{bad_title, no_harts, no_second, whole_fault}
 use Rattle.fk_replay_text.proofs.reading.read_trace.Goals as goal

@@ -3,21 +3,17 @@ use Rattle.std.specs.Prelude.{is_ok}
 use Rattle.fk_top_input.specs.Input.{input_of}
 use Rattle.fk_top.specs.Outcome.{IsVerdict, most_numbers}
 use Rattle.fk_top.proofs.Audited.{audited_is}
-use Rattle.fk_top.proofs.Inputs.{is_input}
+use Rattle.fk_top.proofs.Inputs.{is_input_within}
 use Rattle.fk_top.proofs.audit.audit_ending.Goals as goal
 
 pub audit_image-requires-clause-few_inputs : goal.audit_image-requires-clause-few_inputs
 audit_image-requires-clause-few_inputs c =
-    let limit = c.most_numbers-limit.ensures ∙ ap most_numbers c.len.ensures in
-    let input = is_input c.args.image.now c.args.text.now c.in-Ok.numbers.items c.requires.limits
-    (ap (λ (n : ℕ). input_of n c.args.text.now) (sym limit) ∙ c.in-Ok.ensures.numbers) in
+    let input = is_input_within c.args.image.now c.args.text.now c.in-Ok.numbers.items _ _ c.requires.limits c.most_numbers-limit.ensures c.len.ensures c.in-Ok.ensures.numbers in
     omega (arith, input.few, ap length c.as_slice.ensures.value)
 
 pub audit_image-requires-clause-room : goal.audit_image-requires-clause-room
 audit_image-requires-clause-room c =
-    let limit = c.most_numbers-limit.ensures ∙ ap most_numbers c.len.ensures in
-    let input = is_input c.args.image.now c.args.text.now c.in-Ok.numbers.items c.requires.limits
-    (ap (λ (n : ℕ). input_of n c.args.text.now) (sym limit) ∙ c.in-Ok.ensures.numbers) in
+    let input = is_input_within c.args.image.now c.args.text.now c.in-Ok.numbers.items _ _ c.requires.limits c.most_numbers-limit.ensures c.len.ensures c.in-Ok.ensures.numbers in
     omega (arith, input.room, ap length c.as_slice.ensures.value)
 
 pub returns : goal.returns

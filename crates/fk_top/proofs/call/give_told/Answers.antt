@@ -1,4 +1,4 @@
-use Rattle.std.proofs.Common.{sym, ap, ◌∙◌, refl}
+use Rattle.std.proofs.Common.{sym, ap, ◌∙◌, refl, inl}
 use Rattle.std.specs.Io.KnownBytes.{append_known}
 use Rattle.fk_ports.proofs.Given.{append_known-nil}
 use Rattle.fk_top.specs.Ending.{told_outcome}
@@ -7,6 +7,13 @@ use Rattle.fk_top.proofs.Causes.{put_takes}
 use Rattle.fk_top.proofs.Ended.{ended_as}
 use Rattle.fk_top.proofs.Runs.{on_is_ok}
 use Rattle.fk_top.proofs.call.give_told.Goals as goal
+
+pub returns-in-Err-Fault-clause-cause : goal.returns-in-Err-Fault-clause-cause
+returns-in-Err-Fault-clause-cause g c = λ request ends. record {
+  outcome = told_outcome c.args.told.now;
+  cause = ends;
+  cut = inl (c.in-Err-Fault.ensures.fault (let is = c.in-Err-Fault.field-0-is in cc), sym (append_known-nil _), sym (append_known-nil _));
+}
 
 pub returns-in-Err-Memory-clause-cause : goal.returns-in-Err-Memory-clause-cause
 returns-in-Err-Memory-clause-cause g c = λ request ends. record {

@@ -3,23 +3,19 @@ use Rattle.fk_top_input.specs.declared.fault.InputFault.TheVariants.{Memory}
 use Rattle.fk_top_input.specs.Input.{input_of}
 use Rattle.fk_top.specs.Ending.{writing_of}
 use Rattle.fk_top.specs.Outcome.{most_numbers}
-use Rattle.fk_top.proofs.Inputs.{is_input}
+use Rattle.fk_top.proofs.Inputs.{is_input_within}
 use Rattle.fk_top.proofs.Refusing.{refusing_input}
 use Rattle.fk_top.proofs.Runs.{run_is}
 use Rattle.fk_top.proofs.run.run_ending.Goals as goal
 
 pub new-requires-clause-few_inputs : goal.new-requires-clause-few_inputs
 new-requires-clause-few_inputs c =
-    let limit = c.most_numbers-limit.ensures ∙ ap most_numbers c.len.ensures in
-    let input = is_input c.args.image c.args.text.now c.in-Ok.numbers.items c.requires.limits
-    (ap (λ (n : ℕ). input_of n c.args.text.now) (sym limit) ∙ c.in-Ok.ensures.numbers) in
+    let input = is_input_within c.args.image c.args.text.now c.in-Ok.numbers.items _ _ c.requires.limits c.most_numbers-limit.ensures c.len.ensures c.in-Ok.ensures.numbers in
     omega (arith, input.few, ap length c.as_slice.ensures.value)
 
 pub new-requires-clause-room : goal.new-requires-clause-room
 new-requires-clause-room c =
-    let limit = c.most_numbers-limit.ensures ∙ ap most_numbers c.len.ensures in
-    let input = is_input c.args.image c.args.text.now c.in-Ok.numbers.items c.requires.limits
-    (ap (λ (n : ℕ). input_of n c.args.text.now) (sym limit) ∙ c.in-Ok.ensures.numbers) in
+    let input = is_input_within c.args.image c.args.text.now c.in-Ok.numbers.items _ _ c.requires.limits c.most_numbers-limit.ensures c.len.ensures c.in-Ok.ensures.numbers in
     omega (arith, input.room, ap length c.as_slice.ensures.value)
 
 pub returns : goal.returns

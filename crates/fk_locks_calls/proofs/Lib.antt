@@ -1,0 +1,12 @@
+pub mod Outer
+pub mod Forms
+pub mod Bodies
+pub mod Points
+pub mod Moves
+pub mod Became
+pub mod Events
+pub mod Touching
+pub mod Kept
+pub mod Round
+pub mod Histories
+pub mod Runs

@@ -1,0 +1,4 @@
+pub mod Placed
+pub mod Struct
+pub mod Take
+pub mod Items
