@@ -108,11 +108,14 @@ module _ (core : List CoreOp) (setting : Setting) where
         ahead = ahead.rest;
         so = more (Began round old) old round (absent round old none) at.n x.number new ahead.next.0 now ahead.next.1 at.so
             (let high = ahead.next.1.high in let all = at.so.many in omega arith)
-            (record { from = λ b there.
-                let same : Some b ≡ Some a = sym there ∙ sym (at.so.rest x.number ahead.next.1.low) ∙ here in
-                let b_is : b ≡ a = cc in
-                subst (λ (y : Actor). BeganAs core setting (slice_index round x.number) y new) (sym b_is)
-                (record { may = sym has.whether; begun = has.begun refl; mode = has.mode refl }); asks = has.asks refl });
+            (record {
+              from = λ b there.
+                  let same : Some b ≡ Some a = sym there ∙ sym (at.so.rest x.number ahead.next.1.low) ∙ here in
+                  let b_is : b ≡ a = cc in
+                  subst (λ (y : Actor). BeganAs core setting (slice_index round x.number) y new) (sym b_is)
+                  (record { may = sym has.whether; begun = has.begun refl; mode = has.mode refl });
+              asks = has.asks refl;
+            });
       }
 
   all_may : (round : Round) (old now : List Actor) → length round ≡ length old → length now ≡ length old → ((h : ℕ) (x : Actor) → slice_get now h ≡ Some x → Began round old h x)

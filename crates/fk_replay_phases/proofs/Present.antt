@@ -27,10 +27,10 @@ first m (zero ∷ xs) h rest e =
       none = none f.k f.none;
       rest_is = f.rest_is;
     }
-    where
-      none : (k : ℕ) → ((j : ℕ) → j < k → slice_index xs j ≡ 0) → (j : ℕ) → j < suc k → slice_index (zero ∷ xs) j ≡ 0
-      none k before zero lt = refl
-      none k before (suc j) lt = before j (omega arith)
+  where
+    none : (k : ℕ) → ((j : ℕ) → j < k → slice_index xs j ≡ 0) → (j : ℕ) → j < suc k → slice_index (zero ∷ xs) j ≡ 0
+    none k before zero lt = refl
+    none k before (suc j) lt = before j (omega arith)
 first m (suc c ∷ xs) h rest e =
     let here : m ≡ h = cc in
     let behind : present (suc m) xs ≡ rest = cc in
@@ -93,7 +93,7 @@ pub next_acting : (round : Round) (n : ℕ) (acting : List Acting) (i : ℕ) (x 
 next_acting round n acting i x e lt is =
     let more = drop_more acting i x lt in
     let split : numbers_of (drop i acting) ≡ x.number ∷ numbers_of (drop (i + 1) acting) =
-        ap numbers_of more ∙ ap (λ (y : Acting). y.number ∷ numbers_of (drop (i + 1) acting)) (sym is) in
+    ap numbers_of more ∙ ap (λ (y : Acting). y.number ∷ numbers_of (drop (i + 1) acting)) (sym is) in
     let next = next_of round n x.number (numbers_of (drop (i + 1) acting)) (e ∙ split) in
     record {
       next = (numbers_of (drop (i + 1) acting), next);

@@ -136,10 +136,13 @@ module _ (core : List CoreOp) where
         n = suc x.number;
         ahead = ahead.rest;
         so = more (Passed old) old round (free acting old at.in_round) at.n x.number new ahead.next.0 now ahead.next.1 at.so within
-            (record { ready = has.ready; mode = λ b there.
-                let same : Some b ≡ Some a = sym there ∙ sym (at.so.rest x.number ahead.next.1.low) ∙ here in
-                let b_is : b ≡ a = cc in
-                has.mode ∙ ap (λ (y : Actor). y.mode) (sym b_is) });
+            (record {
+              ready = has.ready;
+              mode = λ b there.
+                  let same : Some b ≡ Some a = sym there ∙ sym (at.so.rest x.number ahead.next.1.low) ∙ here in
+                  let b_is : b ≡ a = cc in
+                  has.mode ∙ ap (λ (y : Actor). y.mode) (sym b_is);
+            });
         same = at.same ∙ pass_one 0 x.number now a new s s' here (λ g y low there. (before acting old now first s i x at lt is g y low there).ready) has.passes has.ready;
       }
 

@@ -79,8 +79,8 @@ module _ (core : List CoreOp) (setting : Setting) where
       let one_more : count ≡ suc k = omega arith in
       let none : are_local (next core) setting k (runner_of old.runner) ≡ false = sym has.whether ∙ is in
       with_count count k old new false one_more (not_begun k old new
-          (ap (λ (b : Bool). (b && are_local (next core) setting k (runner_of old.runner)) && is_some (next core (after_locals (next core) setting k (runner_of old.runner)).left)) (few_of k (omega arith))
-          ∙ ap (λ (b : Bool). b && is_some (next core (after_locals (next core) setting k (runner_of old.runner)).left)) none))
+      (ap (λ (b : Bool). (b && are_local (next core) setting k (runner_of old.runner)) && is_some (next core (after_locals (next core) setting k (runner_of old.runner)).left)) (few_of k (omega arith))
+      ∙ ap (λ (b : Bool). b && is_some (next core (after_locals (next core) setting k (runner_of old.runner)).left)) none))
 
   -- all but the last of the operations are done
   record Behind (count k : ℕ) (old : Actor) (mid : Runner) : Type 0 where
@@ -136,8 +136,8 @@ module _ (core : List CoreOp) (setting : Setting) where
           ap (λ o. local_phase (next core) setting (taking (runner_of mid) o) o) (sym is)
           ∙ ap (λ c. rounds.do_local (next core) setting (taking (runner_of mid) (Some (step_at core (callers_of mid) due))) c (step_at core (callers_of mid) due)) local
           ∙ ap (λ (q : rounds.Runner Position). record { due = None; runner = q }) (sym (
-              ap (λ o. (local_phase (next core) setting (taking (runner_of mid) o) o).runner) (sym is)
-              ∙ ap (λ c. (rounds.do_local (next core) setting (taking (runner_of mid) (Some (step_at core (callers_of mid) due))) c (step_at core (callers_of mid) due)).runner) local))
+          ap (λ o. (local_phase (next core) setting (taking (runner_of mid) o) o).runner) (sym is)
+          ∙ ap (λ c. (rounds.do_local (next core) setting (taking (runner_of mid) (Some (step_at core (callers_of mid) due))) c (step_at core (callers_of mid) due)).runner) local))
 
   pub takes_last : (count : ℕ) (old new : Actor) (mid : Runner) (did : Bool) (due : Due) → 1 ≤ count → count ≤ 255 → HasDoneLocals core setting (count - 1) old.runner mid did → did ≡ true
       → Some (step_at core (callers_of mid) due) ≡ next core (position_of mid) → due.at < length core → class_of due.operation ≢ Local → IsSafeRunner core setting (runner_of old.runner)

@@ -148,9 +148,7 @@ fn fits_apart(
         Joint::Resuming => {
             tree.ready(acting.node) && joins_lowest(ops, tree, counts, actors, last, joint, acting)
         }
-        Joint::AtBarrier if is_alone => {
-            joins(ops, counts, actors, last, joint, acting.lowest)
-        }
+        Joint::AtBarrier if is_alone => { joins(ops, counts, actors, last, joint, acting.lowest) }
         _ => joins_lowest(ops, tree, counts, actors, last, joint, acting),
     }
 }

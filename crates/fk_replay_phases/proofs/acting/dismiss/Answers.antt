@@ -13,7 +13,7 @@ index_mut-requires c =
     let i = c.loop-member.member-index in
     let lt : i < length c.args.acting.now = omega arith in
     let within : (get_or c.args.acting.now i (record { number = 0; node = 0; lowest = 0; highest = 0 })).number < length c.loop-member.counts.items =
-        dismisses_within c.args.acting.now c.args.counts.now.items i c.loop-member.counts.items (get_or c.args.acting.now i nobody) c.loop-member.invariant lt (element c.args.acting.now i nobody lt) in
+    dismisses_within c.args.acting.now c.args.counts.now.items i c.loop-member.counts.items (get_or c.args.acting.now i nobody) c.loop-member.invariant lt (element c.args.acting.now i nobody lt) in
     let items = c.loop-member.counts.ok.0 in
     omega arith
 
