@@ -2,6 +2,7 @@ pub mod Ranges
 pub mod Last
 pub mod Known
 pub mod Composed
+pub mod Served
 pub mod Taking
 pub mod Facts
 pub mod Following
