@@ -22,7 +22,8 @@ use Rattle.fk_replay_able.specs.Known.{DoesLowest}
 use Rattle.fk_replay_arrivals.specs.Arrived.{joint_taken, IsDoneBy, HaveForgotten}
 use Rattle.fk_replay.specs.declared.run.Run.{Run}
 use Rattle.fk_replay.specs.Taken.{state_of, HasForgotten}
-use Rattle.fk_replay.proofs.Composed.{Asked, taken_joint}
+use Rattle.fk_replay.specs.Asked.{AreServed}
+use Rattle.fk_replay.proofs.Composed.{taken_joint}
 use Rattle.fk_replay.proofs.Leaving.{present_there, there_present}
 
 joint_is : (core : List CoreOp) (callers : List ℕ) (taken : Option Due) → joint_taken taken ≡ joint_due (option_map (step_at core callers) taken)
@@ -34,7 +35,7 @@ inside [] h low = absurd (omega (arith, low))
 inside (c ∷ round) zero low = omega arith
 inside (c ∷ round) (suc h) low = let lt = inside round h low in omega (arith, lt)
 
-module _ (core : List CoreOp) (set : Setting) (round : Round) (s : State Position) (after : List Actor) (store : Store) (asks : Asked core set round s after store None) (many : length round ≡ length after) where
+module _ (core : List CoreOp) (set : Setting) (round : Round) (s : State Position) (after : List Actor) (store : Store) (asks : AreServed core set round s after store None) (many : length round ≡ length after) where
   abbrev actings : List Acting
   actings = all_acting s.tree (present 0 round)
 
@@ -76,7 +77,7 @@ module _ (core : List CoreOp) (set : Setting) (round : Round) (s : State Positio
 
 -- who came to the joint operations of a round is forgotten after it
 pub has_forgotten : (core : List CoreOp) (round : Round) (old new : Run) (after : List Actor) (acting : List Acting) (store : Store)
-    → Asked core (setting_of old.setting) round (state_of old) after store None → length round ≡ length after → acting ≡ all_acting (tree_of old.tree) (present 0 round)
+    → AreServed core (setting_of old.setting) round (state_of old) after store None → length round ≡ length after → acting ≡ all_acting (tree_of old.tree) (present 0 round)
     → HaveForgotten acting after old.arrived.items new.arrived.items → HasForgotten core round old new
 has_forgotten core round old new after acting store asks many is forgets = record {
   many = forgets.many;
