@@ -4,7 +4,7 @@ use Rattle.std.specs.Prelude.{unwrap_or}
 use Rattle.std.proofs.lemmas.Bool.{lt-ltb}
 use Rattle.std.proofs.lemmas.List.{take_more, map-append}
 use Rattle.std.proofs.lemmas.Option.{slice_get_read}
-use Rattle.fk_tree.specs.Tree.{Tree, members, below}
+use Rattle.fk_tree.specs.Tree.{Tree, members, below, is_member}
 use Rattle.fk_tree.specs.Sound.{IsSound}
 use Rattle.fk_meaning_operation.specs.declared.operation.SplitKind.{SplitKind}
 use Rattle.fk_meaning_state.specs.View.{processor_of}
