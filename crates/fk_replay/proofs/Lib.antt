@@ -12,3 +12,4 @@ pub mod Timely
 pub mod Traces
 pub mod Opening
 pub mod Passing
+pub mod Forgetting
