@@ -120,10 +120,11 @@ module _ (core : List CoreOp) (setting : Setting) where
         safe = λ a here. safe.each x.number (runner_of a.runner) (slice_get-map (λ (y : Actor). runner_of y.runner) old x.number ∙ ap (option_map (λ (y : Actor). runner_of y.runner)) (sym before ∙ here));
       }
 
-  pub begins_more : (round : Round) (acting : List Acting) (old now : List Actor) (i : ℕ) (x : Acting) (a new : Actor) → BeginsAt round acting old i now → HaveNone old → length round ≡ length old
-      → i < length acting → x ≡ get_or acting i x → slice_get now x.number ≡ Some a → HasBegun core setting (slice_index round x.number) a new true
+  pub begins_more : (round : Round) (acting : List Acting) (old now : List Actor) (i : ℕ) (x : Acting) (a new : Actor) (can : Bool) → BeginsAt round acting old i now → HaveNone old → length round ≡ length old
+      → i < length acting → x ≡ get_or acting i x → slice_get now x.number ≡ Some a → HasBegun core setting (slice_index round x.number) a new can → can ≡ true
       → BeginsAt round acting old (i + 1) (set now x.number new)
-  begins_more round acting old now i x a new at none many lt is here has =
+  begins_more round acting old now i x a new can at none many lt is here tells yes =
+      let has : HasBegun core setting (slice_index round x.number) a new true = subst (HasBegun core setting (slice_index round x.number) a new) yes tells in
       let ahead = next_acting round at.n acting i x at.ahead lt is in
       record {
         n = suc x.number;
@@ -202,14 +203,14 @@ module _ (core : List CoreOp) (setting : Setting) where
       and_false true = refl
       and_false false = refl
 
-  pub begins_not : (round : Round) (acting : List Acting) (old now new : List Actor) (i : ℕ) (x : Acting) (a b : Actor) → BeginsAt round acting old i now
-      → i < length acting → x ≡ get_or acting i x → slice_get now x.number ≡ Some a → HasBegun core setting (slice_index round x.number) a b false
+  pub begins_not : (round : Round) (acting : List Acting) (old now new : List Actor) (i : ℕ) (x : Acting) (a b : Actor) (can : Bool) → BeginsAt round acting old i now
+      → i < length acting → x ≡ get_or acting i x → slice_get now x.number ≡ Some a → HasBegun core setting (slice_index round x.number) a b can → can ≡ false
       → HaveBegun core setting round old new false
-  begins_not round acting old now new i x a b at lt is here has =
+  begins_not round acting old now new i x a b can at lt is here has not =
       let ahead = next_acting round at.n acting i x at.ahead lt is in
       let there : slice_get old x.number ≡ Some a = sym (at.so.rest x.number ahead.next.1.low) ∙ here in
       record {
-        whether = sym (one_not round old x.number a there ahead.next.1.high (sym has.whether));
+        whether = sym (one_not round old x.number a there ahead.next.1.high (sym has.whether ∙ not));
         begun = λ e. absurd (let bad : false ≡ true = e in cc);
         modes = λ e. absurd (let bad : false ≡ true = e in cc);
         asks = λ e. absurd (let bad : false ≡ true = e in cc);

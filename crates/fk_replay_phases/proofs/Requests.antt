@@ -16,7 +16,7 @@ use Rattle.fk_core.specs.Next.{Position}
 use Rattle.fk_replay_steps.specs.Steps.{step_at, callers_of, runner_of}
 use Rattle.fk_replay_rounds.specs.Own.{IsOwn, AreOwn}
 use Rattle.fk_replay_phases.specs.Present.{present, numbers_of}
-use Rattle.fk_replay_phases.specs.Actors.{acting_of, actings_of, due_of, runners_of, modes_of, AreInRound, CanBeAsked, CanAllBeAsked, IsReady, AreReady, HasPassed, HasBroken, HaveAsked, fault_of}
+use Rattle.fk_replay_phases.specs.Actors.{acting_of, actings_of, due_of, runners_of, modes_of, AreInRound, CanBeAsked, CanAllBeAsked, IsReady, AreReady, HasPassed, HasBroken, HasAsked, HaveAsked, fault_of}
 use Rattle.fk_replay_phases.specs.declared.acting.Acting.{Acting}
 use Rattle.fk_replay_phases.specs.declared.actor.Actor.{Actor}
 use Rattle.fk_replay_steps.specs.declared.list.Due.{Due}
@@ -154,10 +154,11 @@ module _ (core : List CoreOp) where
       is_own a there =
           own.each x.number (runner_of a.runner) (slice_get-map (λ (y : Actor). runner_of y.runner) old x.number ∙ ap (option_map (λ (y : Actor). runner_of y.runner)) there)
 
-  pub asks_more : (acting : List Acting) (old now : List Actor) (first s s' : Store) (i : ℕ) (x : Acting) (a new : Actor) → AsksAt acting old first i now s
-      → i < length acting → x ≡ get_or acting i x → slice_get now x.number ≡ Some a → HasPassed core s s' a new
+  pub asks_more : (acting : List Acting) (old now : List Actor) (first s s' : Store) (i : ℕ) (x : Acting) (a new : Actor) (fault : Option ℕ) → AsksAt acting old first i now s
+      → i < length acting → x ≡ get_or acting i x → slice_get now x.number ≡ Some a → HasAsked core s s' a new fault → fault ≡ None
       → AsksAt acting old first (i + 1) (set now x.number new) s'
-  asks_more acting old now first s s' i x a new at lt is here has =
+  asks_more acting old now first s s' i x a new fault at lt is here tells none =
+      let has : HasPassed core s s' a new = subst (HasAsked core s s' a new) none tells in
       let round = at.in_round.round in
       let ahead = next_acting round at.n acting i x at.ahead lt is in
       let within : x.number < length now = let high = ahead.next.1.high in let all = at.so.many in let many = at.in_round.many in omega arith in
@@ -193,10 +194,10 @@ module _ (core : List CoreOp) where
         modes = all_modes old now at.so.many (λ h x is a there. (passed h x is).mode a there);
       }
 
-  pub asks_break : (acting : List Acting) (old now : List Actor) (first s s' : Store) (i : ℕ) (x : Acting) (a new : Actor) (fault : code.Fault) → AsksAt acting old first i now s
-      → i < length acting → x ≡ get_or acting i x → slice_get now x.number ≡ Some a → HasBroken core s s' a new fault.site → fault.processor ≡ x.number
+  pub asks_break : (acting : List Acting) (old now : List Actor) (first s s' : Store) (i : ℕ) (x : Acting) (a new : Actor) (fault : code.Fault) (site : Option ℕ) → AsksAt acting old first i now s
+      → i < length acting → x ≡ get_or acting i x → slice_get now x.number ≡ Some a → HasAsked core s s' a new site → site ≡ Some fault.site → fault.processor ≡ x.number
       → HaveAsked core first s' old (set now x.number new) (Some fault)
-  asks_break acting old now first s s' i x a new fault at lt is here has who =
+  asks_break acting old now first s s' i x a new fault site at lt is here tells there_is who =
       let stays : actings_of core (set now x.number new) ≡ actings_of core now = same_actings now x.number here in
       record {
         phase = at.same ∙ break_one 0 x.number now a s fault.site here (λ g y low there. (before acting old now first s i x at lt is g y low there).ready) has.breaks
@@ -207,6 +208,9 @@ module _ (core : List CoreOp) where
         modes = all_modes old (set now x.number new) (length-set now x.number new ∙ at.so.many) (λ h y there b from. mode h y there b from (place h x.number));
       }
     where
+      has : HasBroken core s s' a new fault.site
+      has = subst (HasAsked core s s' a new) there_is tells
+
       place : (h g : ℕ) → (h < g) ⊎ ((h ≡ g) ⊎ (g < h))
       place h g = grind arith
 
