@@ -3,6 +3,8 @@ pub mod Last
 pub mod Known
 pub mod Composed
 pub mod Served
+pub mod Stopping
+pub mod Finishing
 pub mod Taking
 pub mod Facts
 pub mod Following

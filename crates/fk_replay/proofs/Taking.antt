@@ -25,7 +25,7 @@ use Rattle.fk_replay_trees.specs.Settled.{HaveSettled}
 use Rattle.fk_replay.specs.declared.run.Run.{Run}
 use Rattle.fk_replay.specs.Steady.{IsSteady}
 use Rattle.fk_replay.specs.Asked.{AreServed}
-use Rattle.fk_replay.specs.Taken.{state_of, IsRun, set_in, IsDone, IsStoppedBy, IsNeither}
+use Rattle.fk_replay.specs.Taken.{state_of, IsRun, set_in, HasForgotten, IsDone, IsStoppedBy, IsNeither}
 use Rattle.fk_replay.proofs.Composed.{result_is, together, joints_up_to, is_it_possible, not_begun, not_fitting, not_stopping}
 
 abbrev made : Store → Tree → List (Runner Position) → State Position
@@ -46,6 +46,7 @@ module _ (core : List CoreOp) (round : Round) (old : Run) where
     pub pace : new.pace ≡ old.pace
     pub numbers : numbers_of new.acting.items ≡ present 0 round
     pub given : (tree_of new.tree).given ≤ (tree_of old.tree).given + 2 ^ 28
+    pub arrived : HasForgotten core round old new
 
   pub is_done : (new : Run) (after : List Actor) → IsRun old → IsSteady core (setting_of old.setting) (state_of old)
       → AreServed core (setting_of old.setting) round (state_of old) after (store_of new.store) None
@@ -70,6 +71,7 @@ module _ (core : List CoreOp) (round : Round) (old : Run) where
     pace = sizes.pace;
     numbers = sizes.numbers;
     given = sizes.given;
+    arrived = sizes.arrived;
   }
     where
       is : result (next core) (setting_of old.setting) round (state_of old) ≡ tree_phase (tree_of old.tree) (store_of new.store) (actings_of core after) None
