@@ -4,6 +4,7 @@ pub mod Known
 pub mod Composed
 pub mod Served
 pub mod Stopping
+pub mod Knowing
 pub mod Finishing
 pub mod Taking
 pub mod Facts
