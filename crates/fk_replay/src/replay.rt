@@ -63,7 +63,34 @@ fn leave(acting: &[Acting], pace: &mut Pace)
     }
 }
 
-/// A round, with its fault if it is stopped.
+/// A round, with its fault if it is the last one and stopped.
+fn do_round(
+    run: &mut Run,
+    ops: &[CoreOp],
+    round: u32,
+    acts: &[Acts],
+    is_last: bool,
+) -> Result<Option<Fault>, ReplayFault>
+    requires few { length ops.now < 2 ^ 32 }
+    requires run { IsRun run.old }
+    requires ranges { AreRanges (processors run.old.tree) (map range_of acts.now) }
+    requires steady { IsSteady ops.now (setting_of run.old.setting) (state_of run.old) }
+    requires given { (tree_of run.old.tree).given + 2 ^ 28 < 2 ^ 63 }
+    requires arrived { length run.old.arrived.items ≡ processors run.old.tree }
+    ensures taken { IfOk result (HasTaken ops.now
+        (round_of (processors run.old.tree) (map range_of acts.now)) round is_last
+        run.old run.new) }
+    ensures refused { IfErr result (IsUntaken ops.now
+        (round_of (processors run.old.tree) (map range_of acts.now)) round is_last run.old) }
+{
+    match run.take_round(ops, acts)? {
+        Outcome::Possible => Ok(None),
+        Outcome::Stopped(fault) if is_last => Ok(Some(fault)),
+        Outcome::Stopped(_) | Outcome::NotPossible => Err(ReplayFault::NotPossible(round)),
+    }
+}
+
+/// A round that is late for nobody. Unless it is the last one, it is told who could act after it.
 fn pass_round(
     run: &mut Run,
     ops: &[CoreOp],
@@ -84,12 +111,7 @@ fn pass_round(
     ensures refused { IfErr result (IsRefused ops.now
         (round_of (processors run.old.tree) (map range_of acts.now)) round is_last run.old) }
 {
-    let fault = match run.take_round(ops, acts)? {
-        Outcome::NotPossible => return Err(ReplayFault::NotPossible(round)),
-        Outcome::Stopped(fault) if is_last => Some(fault),
-        Outcome::Stopped(_) => return Err(ReplayFault::NotPossible(round)),
-        Outcome::Possible => None,
-    };
+    let fault = do_round(run, ops, round, acts, is_last)?;
     leave(&run.acting, &mut run.pace);
     on_time(&run.pace, round)?;
     if !is_last {
