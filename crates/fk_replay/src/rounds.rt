@@ -14,10 +14,10 @@ ghost use Rattle.fk_replay.specs.Ranges.{AreRanges};
 ghost use Rattle.fk_replay.specs.Steady.{IsSteady};
 ghost use Rattle.fk_replay.specs.Taken.{IsRun, state_of, IsTaken, is_last_of};
 
-use crate::able::forget_all;
 use crate::enlist::enlist;
 use crate::run::Run;
 use fk_core::CoreOp;
+use fk_replay_arrivals::forget_all;
 use fk_replay_phases::{Fault, all_fit, begin_all, dismiss, do_requests};
 use fk_replay_text::Acts;
 use fk_replay_trees::{change_all, settle_all};
