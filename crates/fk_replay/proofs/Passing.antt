@@ -18,9 +18,9 @@ use Rattle.fk_replay.specs.Steady.{IsSteady}
 use Rattle.fk_replay.specs.Taken.{IsRun, IsDone, IsStoppedBy, IsNeither, state_of}
 use Rattle.fk_replay.specs.Passed.{TellsLate, HasTold, HasTaken, HasPassed, IsUntaken, IsGood, IsRefused, IsSteadyBehind}
 
--- the same run with another pace
-pub run_with : (run : Run) (left : Absences) → IsRun run → IsRun (record run { pace = left })
-run_with run left x = record {
+-- the same parts, but for the pace and for who has arrived
+pub same_run : (run new : Run) → new ≡ record run { pace = new.pace; arrived = new.arrived } → IsRun run → IsRun new
+same_run run new e x = subst IsRun (sym e) (record {
   few = x.few;
   setting = x.setting;
   store = x.store;
@@ -29,7 +29,11 @@ run_with run left x = record {
   free = x.free;
   modes = x.modes;
   own = x.own;
-}
+})
+
+-- the same run with another pace
+pub run_with : (run : Run) (left : Absences) → IsRun run → IsRun (record run { pace = left })
+run_with run left x = same_run run (record run { pace = left }) refl x
 
 module _ (core : List CoreOp) (round : Round) (number : ℕ) (is_last : Bool) (old : Run) where
   abbrev Good : Type 0

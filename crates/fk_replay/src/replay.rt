@@ -15,7 +15,7 @@ ghost use Rattle.fk_replay.specs.Ranges.{AreRanges};
 ghost use Rattle.fk_replay.specs.Steady.{IsSteady};
 ghost use Rattle.fk_replay.specs.Taken.{IsRun, state_of};
 ghost use Rattle.fk_replay.specs.Passed.{TellsLate, AreOnTime, TellsFirstLate, KnowsAbout};
-ghost use Rattle.fk_replay.specs.Passed.{HasPassed, IsRefused, IsSteadyBehind};
+ghost use Rattle.fk_replay.specs.Passed.{HasTaken, IsUntaken, HasPassed, IsRefused, IsSteadyBehind};
 ghost use Rattle.fk_replay.specs.Followed.{AreSteady, HasDone, HasFollowed, IsUnlawful};
 ghost use Rattle.fk_replay.specs.Replay.{IsOfText, IsOrderly, IsSafe, IsAnswer, schedule_in};
 
@@ -105,7 +105,7 @@ fn pass_round(
     requires steady { IsSteady ops.now (setting_of run.old.setting) (state_of run.old) }
     requires behind { IsSteadyBehind ops.now
         (round_of (processors run.old.tree) (map range_of acts.now)) run.old }
-    requires given { (tree_of run.old.tree).given + 2 ^ 28 ≤ 2 ^ 63 }
+    requires given { (tree_of run.old.tree).given + 2 ^ 28 < 2 ^ 63 }
     requires knows { KnowsAbout ops.now run.old [] }
     requires round { is_last ≡ false → round + 1 < 2 ^ 32 }
     ensures passed { IfOk result (HasPassed ops.now
