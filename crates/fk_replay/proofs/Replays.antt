@@ -77,11 +77,11 @@ module _ (core : List CoreOp) (main : ℕ) (words firsts input : List ℕ) (p : 
 
   module _ (schedule : Schedule) (r : Run) (replayed : Replayed) where
     pub replay_is : (fault : Option Fault) → HasFollowed core set schedule first r fault → replayed.output.items ≡ (store_of r.store).output
-        → stand_in replayed.end ≡ stand_by (next core) (setting_of r.setting) (option_map (fault_of core) fault) (runners_of r.actors.items) → IsReplay core main words firsts input p schedule replayed
+        → stand_in replayed.end ≡ stand_by (next core) set (option_map (fault_of core) fault) (runners_of r.actors.items) → IsReplay core main words firsts input p schedule replayed
     replay_is None done output stand = record {
       lawful = lawful_done core set schedule first r done;
       output = output ∙ output_done core set schedule first r done;
-      stand = stand ∙ ap (λ (σ : Setting). stand_by (next core) σ None (runners_of r.actors.items)) done.setting ∙ stand_done core set schedule first r done;
+      stand = stand ∙ stand_done core set schedule first r done;
     }
     replay_is (Some fault) stopped output stand = record {
       lawful = lawful_stopped core set schedule first r fault stopped;
@@ -147,10 +147,10 @@ module _ (core : List CoreOp) (main : ℕ) (words firsts input : List ℕ) (p : 
 
   pub answered : (schedule : Schedule) (r : Run) (fault : Option Fault) (replayed : Replayed) → HasFollowed core (setting_of begun.setting) schedule (state_of begun) r fault
       → replayed.output.items ≡ (store_of r.store).output
-      → stand_in replayed.end ≡ stand_by (next core) (setting_of r.setting) (option_map (fault_of core) fault) (runners_of r.actors.items)
+      → ((σ : Setting) → stand_in replayed.end ≡ stand_by (next core) σ (option_map (fault_of core) fault) (runners_of r.actors.items))
       → IsReplay core main words firsts input p schedule replayed
   answered schedule r fault replayed followed output stand =
-      replay_is core main words firsts input p schedule r replayed fault (by_first (λ (σ : Setting) (s : State Position). HasFollowed core σ schedule s r fault) followed) output stand
+      replay_is core main words firsts input p schedule r replayed fault (by_first (λ (σ : Setting) (s : State Position). HasFollowed core σ schedule s r fault) followed) output (stand (set core main words firsts input p))
 
   pub refused : (schedule : Schedule) (fault : ReplayFault) → IsUnlawful core (setting_of begun.setting) schedule (state_of begun) fault → IsAnswer core main words firsts input p schedule (Err fault)
   refused schedule fault x =

@@ -19,7 +19,7 @@ ghost use Rattle.fk_replay.specs.Passed.{HasTaken, IsUntaken, HasPassed, IsRefus
 ghost use Rattle.fk_replay.specs.Followed.{AreSteady, HasDone, HasFollowed, IsUnlawful};
 ghost use Rattle.fk_replay.specs.Replay.{IsOfText, IsOrderly, IsSafe, IsAnswer, schedule_in};
 
-use crate::end::Replayed;
+use crate::end::{Replayed, end_of};
 use crate::rounds::Outcome;
 use crate::run::Run;
 use fk_core::CoreOp;
@@ -191,6 +191,6 @@ pub fn replay_list(
     let output = copied(alloc, run.store.output())?;
     Ok(Replayed {
         output,
-        end: run.end(ops, fault),
+        end: end_of(ops, &run.actors, fault),
     })
 }
