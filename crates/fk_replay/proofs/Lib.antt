@@ -16,3 +16,4 @@ pub mod Traces
 pub mod Opening
 pub mod Passing
 pub mod Forgetting
+pub mod Ending

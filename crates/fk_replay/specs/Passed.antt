@@ -72,29 +72,21 @@ IsSteadyBehind core round old =
     (result (next core) (setting_of old.setting) round (state_of old))
 
 module _ (core : List CoreOp) (round : Round) (number : ℕ) (is_last : Bool) (old : Run) where
-  -- the round was done
-  pub record IsPassed (new : Run) : Type 0 where
-    pub done : Run
-    pub is : IsDone core round old done
+  -- the round was done, or is the last one and was stopped by a fault
+  abbrev pub HasTaken : Run → Option Fault → Type 0
+  HasTaken new None = IsDone core round old new
+  HasTaken new (Some fault) = (is_last ≡ true) × IsStoppedBy core round old new fault
+
+  -- then those who were in it left. It is late for nobody, and unless it is the last one it was told
+  -- who could act after it
+  pub record HasPassed (new : Run) (fault : Option Fault) : Type 0 where
+    pub mid : Run
+    pub taken : HasTaken mid fault
     pub left : Absences
     pub leaves : Leaves round (since old.pace) (since left)
     pub on_time : IsLeastLate left number None
-    pub told : is_last ≡ false → HasTold core (suc number) (record done { pace = left }) new
-    pub last : is_last ≡ true → new ≡ record done { pace = left }
-
-  -- the round is the last one, and stopped by a fault
-  pub record IsPassedWith (fault : Fault) (new : Run) : Type 0 where
-    pub last : is_last ≡ true
-    pub stopped : Run
-    pub is : IsStoppedBy core round old stopped fault
-    pub left : Absences
-    pub leaves : Leaves round (since old.pace) (since left)
-    pub on_time : IsLeastLate left number None
-    pub new_is : new ≡ record stopped { pace = left }
-
-  abbrev pub HasPassed : Run → Option Fault → Type 0
-  HasPassed new None = IsPassed new
-  HasPassed new (Some fault) = IsPassedWith fault new
+    pub told : is_last ≡ false → HasTold core (suc number) (record mid { pace = left }) new
+    pub last : is_last ≡ true → new ≡ record mid { pace = left }
 
   -- the round is possible, or is the last one and stopped
   abbrev pub IsGood : Type 0
@@ -102,6 +94,13 @@ module _ (core : List CoreOp) (round : Round) (number : ℕ) (is_last : Bool) (o
       (is_possible (next core) (setting_of old.setting) round (state_of old) ≡ true)
       ⊎ ((is_last ≡ true)
       × IsStopped (next core) (setting_of old.setting) round (state_of old))
+
+  -- why it wasn't taken
+  abbrev pub IsUntaken : ReplayFault → Type 0
+  IsUntaken (NotPossible at) = (at ≡ number) × (IsGood → ⊥)
+  IsUntaken (Pace at h) = ⊥
+  IsUntaken (BadTrace line) = ⊥
+  IsUntaken Memory = Unit {0}
 
   pub record IsTooLate (h : ℕ) : Type 0 where
     pub good : IsGood

@@ -1,20 +1,14 @@
 //! The state of a run.
 
-ghost use Rattle.std.specs.Prelude.{◌≡◌, ◌+◌, ◌^◌, ◌<◌, ◌≤◌, length, option_map, IfOk};
+ghost use Rattle.std.specs.Prelude.{◌≡◌, ◌+◌, ◌^◌, ◌<◌, ◌≤◌, length, IfOk};
 ghost use Rattle.fk_meaning_state.specs.View.{setting_of};
-ghost use Rattle.fk_meaning.specs.Schedule.{all_done, stand_by};
-ghost use Rattle.fk_core.specs.Next.{next};
-ghost use Rattle.fk_replay_phases.specs.Actors.{runners_of, fault_of};
 ghost use Rattle.fk_replay.specs.Arrivals.{NoneArrived};
 ghost use Rattle.fk_replay.specs.Openings.{IsOpening, IsFirst, AreFirst};
-ghost use Rattle.fk_replay.specs.Replay.{stand_in};
 
-use crate::end::End;
-use fk_core::CoreOp;
 use fk_meaning_state::{Processor, Setting};
 use fk_meaning_store::Store32;
 use fk_replay_arrivals::Arrived;
-use fk_replay_phases::{Acting, Actor, Fault};
+use fk_replay_phases::{Acting, Actor};
 use fk_replay_rounds::Mode;
 use fk_replay_steps::{Pace, Runner};
 use fk_tree::Tree;
@@ -117,29 +111,5 @@ impl Run {
             acting: Vec::new(alloc),
             arrived: none_arrived(alloc, processors)?,
         })
-    }
-
-    /// Whether no processor has anything left to do.
-    fn is_done(&self, ops: &[CoreOp]) -> bool
-        requires few { length ops.now < 2 ^ 32 }
-        ensures { result ≡ all_done (next ops.now) (setting_of self.now.setting)
-            (runners_of self.now.actors.items) }
-    {
-        self.actors
-            .iter()
-            .all(|actor| actor.runner.due(ops).is_none())
-    }
-
-    /// How the run has ended, with the fault of its last round if that is stopped.
-    pub(crate) fn end(&self, ops: &[CoreOp], fault: Option<Fault>) -> End
-        requires few { length ops.now < 2 ^ 32 }
-        ensures { stand_in result ≡ stand_by (next ops.now) (setting_of self.now.setting)
-            (option_map (fault_of ops.now) fault) (runners_of self.now.actors.items) }
-    {
-        match fault {
-            Some(fault) => End::Faulted(fault.site, fault.processor),
-            None if self.is_done(ops) => End::Finished,
-            None => End::Running,
-        }
     }
 }
