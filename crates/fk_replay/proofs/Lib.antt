@@ -3,6 +3,7 @@ pub mod Last
 pub mod Known
 pub mod Composed
 pub mod Served
+pub mod Asking
 pub mod Stopping
 pub mod Knowing
 pub mod Finishing

@@ -34,7 +34,7 @@ use Rattle.fk_replay.proofs.Facts.{numbers_map, in_round_after, are_there}
 
 -- ---- lists of processors with the same modes
 
-modes_many : (xs ys : List Actor) → modes_of ys ≡ modes_of xs → length ys ≡ length xs
+pub modes_many : (xs ys : List Actor) → modes_of ys ≡ modes_of xs → length ys ≡ length xs
 modes_many xs ys e = sym (length-map (λ (a : Actor). a.mode) ys) ∙ ap length e ∙ length-map (λ (a : Actor). a.mode) xs
 
 pub have_modes : (tree : t.Tree) (xs ys : List Actor) → modes_of ys ≡ modes_of xs → HaveModes tree xs → HaveModes tree ys

@@ -20,7 +20,7 @@ ghost use Rattle.fk_replay.specs.Followed.{AreSteady, HasDone, HasFollowed, IsUn
 ghost use Rattle.fk_replay.specs.Replay.{IsOfText, IsOrderly, IsSafe, IsAnswer, schedule_in};
 
 use crate::end::{Replayed, end_of};
-use crate::rounds::Outcome;
+use crate::rounds::{Outcome, take_round};
 use crate::run::Run;
 use fk_core::CoreOp;
 use fk_replay_phases::{Acting, Fault};
@@ -84,7 +84,7 @@ fn do_round(
     ensures refused { IfErr result (IsUntaken ops.now
         (round_of (processors run.old.tree) (map range_of acts.now)) round is_last run.old) }
 {
-    match run.take_round(ops, acts)? {
+    match take_round(run, ops, acts)? {
         Outcome::Possible => Ok(None),
         Outcome::Stopped(fault) if is_last => Ok(Some(fault)),
         Outcome::Stopped(_) | Outcome::NotPossible => Err(ReplayFault::NotPossible(round)),
