@@ -12,11 +12,11 @@ use Rattle.fk_replay_phases.specs.declared.actor.Actor.{Actor}
 use Rattle.fk_replay_phases.specs.declared.phases.Fault.{Fault}
 use Rattle.fk_replay_phases.specs.Present.{present, all_acting}
 use Rattle.fk_replay_phases.specs.Actors.{actings_of, modes_of, fault_of, AreReady}
-use Rattle.fk_replay.specs.declared.run.Run.{Run}
-use Rattle.fk_replay.specs.declared.rounds.Outcome.{Outcome}
-use Rattle.fk_replay.specs.declared.rounds.Outcome.TheVariants.{Possible, Stopped, NotPossible}
-use Rattle.fk_replay.specs.Steady.{IsSteady}
-use Rattle.fk_replay.specs.Taken.{IsRun, state_of}
+use Rattle.fk_replay_run.specs.declared.run.Run.{Run}
+use Rattle.fk_replay_take.specs.declared.rounds.Outcome.{Outcome}
+use Rattle.fk_replay_take.specs.declared.rounds.Outcome.TheVariants.{Possible, Stopped, NotPossible}
+use Rattle.fk_replay_run.specs.Steady.{IsSteady}
+use Rattle.fk_replay_run.specs.Runs.{IsRun, state_of}
 
 module _ (core : List CoreOp) (set : Setting) (round : Round) (s : State Position) where
   -- each processor of the round may be in it, and its request was done, up to the first fault

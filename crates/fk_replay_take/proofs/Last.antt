@@ -3,7 +3,7 @@ use Rattle.std.proofs.Common.{◌≡◌, ℕ, zero, suc, ◌+◌, ◌<◌, ◌�
 use Rattle.std.specs.Prelude.{◌==◌, slice_index}
 use Rattle.fk_meaning.specs.Round.{Round}
 use Rattle.fk_replay_phases.specs.Present.{present}
-use Rattle.fk_replay.specs.Taken.{is_last_of}
+use Rattle.fk_replay_take.specs.Taken.{is_last_of}
 
 none_present : (n : ℕ) (xs : Round) (g : ℕ) → present n xs ≡ [] → slice_index xs g ≡ 0
 none_present n [] zero e = refl

@@ -11,7 +11,7 @@ use Rattle.fk_replay_text.specs.Rounds.{count_in, counts_from}
 use Rattle.fk_tree.specs.Tree.{Tree}
 use Rattle.fk_replay_phases.specs.Present.{AreNone, present, all_acting, acting_at}
 use Rattle.fk_replay_phases.specs.declared.acting.Acting.{Acting}
-use Rattle.fk_replay.specs.Ranges.{AreRanges, with_range}
+use Rattle.fk_replay_take.specs.Ranges.{AreRanges, with_range}
 
 none_present : (n : ℕ) (round : Round) → ((g : ℕ) → slice_index round g ≡ 0) → present n round ≡ []
 none_present n [] none = refl

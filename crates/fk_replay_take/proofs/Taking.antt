@@ -22,11 +22,12 @@ use Rattle.fk_replay_phases.specs.Actors.{actings_of, runners_of, fault_of, Have
 use Rattle.fk_replay_phases.specs.Joints.{joint_at}
 use Rattle.fk_replay_phases.specs.Modes.{HaveModes}
 use Rattle.fk_replay_trees.specs.Settled.{HaveSettled}
-use Rattle.fk_replay.specs.declared.run.Run.{Run}
-use Rattle.fk_replay.specs.Steady.{IsSteady}
-use Rattle.fk_replay.specs.Asked.{AreServed}
-use Rattle.fk_replay.specs.Taken.{state_of, IsRun, set_in, IsDone, IsStoppedBy, IsNeither}
-use Rattle.fk_replay.proofs.Composed.{result_is, together, joints_up_to, is_it_possible, not_begun, not_fitting, not_stopping}
+use Rattle.fk_replay_run.specs.declared.run.Run.{Run}
+use Rattle.fk_replay_run.specs.Steady.{IsSteady}
+use Rattle.fk_replay_take.specs.Asked.{AreServed}
+use Rattle.fk_replay_run.specs.Runs.{state_of, IsRun}
+use Rattle.fk_replay_take.specs.Taken.{set_in, IsDone, IsStoppedBy, IsNeither}
+use Rattle.fk_replay_take.proofs.Composed.{result_is, together, joints_up_to, is_it_possible, not_begun, not_fitting, not_stopping}
 
 abbrev made : Store → Tree → List (Runner Position) → State Position
 made st tree rs = record { store = st; tree = tree; runners = rs; fault = None }

@@ -29,10 +29,10 @@ use Rattle.fk_replay_phases.specs.declared.actor.Actor.{Actor}
 use Rattle.fk_replay_phases.specs.Present.{present, numbers_of, acting_at, all_acting, AreHighBelow}
 use Rattle.fk_replay_phases.specs.Actors.{acting_of, actings_of, runners_of, due_of, AreInRound}
 use Rattle.fk_replay_phases.specs.Joints.{joint_at}
-use Rattle.fk_replay.specs.Ranges.{AreRanges}
-use Rattle.fk_replay.specs.Steady.{IsSteady}
-use Rattle.fk_replay.specs.Asked.{AreServed}
-use Rattle.fk_replay.proofs.Composed.{stepping_is, waits}
+use Rattle.fk_replay_take.specs.Ranges.{AreRanges}
+use Rattle.fk_replay_run.specs.Steady.{IsSteady}
+use Rattle.fk_replay_take.specs.Asked.{AreServed}
+use Rattle.fk_replay_take.proofs.Composed.{stepping_is, waits}
 
 -- ---- counts
 

@@ -5,7 +5,7 @@ ghost use Rattle.fk_tree.specs.View.{tree_of, processors};
 ghost use Rattle.fk_replay_text.specs.View.{range_of};
 ghost use Rattle.fk_replay_text.specs.Rounds.{round_of};
 ghost use Rattle.fk_replay_phases.specs.Present.{AreNone, present, all_acting};
-ghost use Rattle.fk_replay.specs.Ranges.{AreRanges, with_range};
+ghost use Rattle.fk_replay_take.specs.Ranges.{AreRanges, with_range};
 
 use fk_replay_phases::{Acting, acting_in};
 use fk_replay_text::Acts;

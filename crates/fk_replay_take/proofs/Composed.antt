@@ -33,8 +33,8 @@ use Rattle.fk_replay_phases.specs.declared.phases.Fault as code
 use Rattle.fk_replay_phases.specs.declared.actor.Actor.{Actor}
 use Rattle.fk_replay_phases.specs.Actors.{acting_of, actings_of, due_of, runners_of, fault_of, HaveBegun, HaveAsked}
 use Rattle.fk_replay_phases.specs.Joints.{joint_at, joint_by, joint_next}
-use Rattle.fk_replay.specs.Steady.{IsSteady}
-use Rattle.fk_replay.specs.Asked.{AreServed}
+use Rattle.fk_replay_run.specs.Steady.{IsSteady}
+use Rattle.fk_replay_take.specs.Asked.{AreServed}
 
 and_true : (a b : Bool) → a && b ≡ true → (a ≡ true) × (b ≡ true)
 and_true true b e = (refl, e)

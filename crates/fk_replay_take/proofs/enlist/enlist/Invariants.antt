@@ -3,8 +3,8 @@ use Rattle.std.proofs.Common.{◌≡◌, map}
 use Rattle.fk_tree.specs.View.{tree_of, processors}
 use Rattle.fk_replay_text.specs.View.{range_of}
 use Rattle.fk_replay_phases.specs.Present.{present, all_acting}
-use Rattle.fk_replay.proofs.Ranges.{EnlistsAt}
-use Rattle.fk_replay.proofs.enlist.enlist.Given as goal
+use Rattle.fk_replay_take.proofs.Ranges.{EnlistsAt}
+use Rattle.fk_replay_take.proofs.enlist.enlist.Given as goal
 
 abbrev pub invariant-loop-range : goal.invariant-loop-range
 invariant-loop-range l = record {

@@ -2,8 +2,8 @@
 
 ghost use Rattle.std.specs.Prelude.{◌≡◌, ◌+◌, ◌^◌, ◌<◌, ◌≤◌, length, IfOk};
 ghost use Rattle.fk_meaning_state.specs.View.{setting_of};
-ghost use Rattle.fk_replay.specs.Arrivals.{NoneArrived};
-ghost use Rattle.fk_replay.specs.Openings.{IsOpening, IsFirst, AreFirst};
+ghost use Rattle.fk_replay_run.specs.Arrivals.{NoneArrived};
+ghost use Rattle.fk_replay_run.specs.Openings.{IsOpening, IsFirst, AreFirst};
 
 use fk_meaning_state::{Processor, Setting};
 use fk_meaning_store::Store32;
@@ -16,19 +16,19 @@ use std::alloc::{AllocError, Global};
 
 /// The state of a run, and what is needed to go on with it.
 #[derive(Drop)]
-pub(crate) struct Run {
-    pub(crate) alloc: Global,
-    pub(crate) setting: Setting,
-    pub(crate) store: Store32,
-    pub(crate) tree: Tree,
-    pub(crate) actors: Vec<Actor>,
-    pub(crate) pace: Pace,
+pub struct Run {
+    pub alloc: Global,
+    pub setting: Setting,
+    pub store: Store32,
+    pub tree: Tree,
+    pub actors: Vec<Actor>,
+    pub pace: Pace,
     /// The count of each processor in the current round.
-    pub(crate) counts: Vec<u32>,
+    pub counts: Vec<u32>,
     /// Those who are in the current round.
-    pub(crate) acting: Vec<Acting>,
+    pub acting: Vec<Acting>,
     /// By the lowest member of each node.
-    pub(crate) arrived: Vec<Arrived>,
+    pub arrived: Vec<Arrived>,
 }
 
 /// A processor at the beginning of `main`.
@@ -86,7 +86,7 @@ fn none_arrived(alloc: Global, processors: u32) -> Result<Vec<Arrived>, AllocErr
 
 impl Run {
     /// The state before the first round.
-    pub(crate) fn opening(
+    pub fn opening(
         alloc: Global,
         main: u32,
         words: &[u32],

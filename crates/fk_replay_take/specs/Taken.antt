@@ -1,43 +1,23 @@
--- A run in memory, and what a round makes of it.
-use Rattle.std.specs.Prelude.{◌≡◌, ℕ, ◌+◌, ◌≤◌, ◌^◌, ◌==◌, Bool, true, false, List, [], ◌∷◌, Some, None, length, vec_len}
+-- What a round makes of a run in memory.
+use Rattle.std.specs.Prelude.{◌≡◌, ℕ, ◌+◌, ◌≤◌, ◌^◌, ◌==◌, Bool, true, false, List, [], ◌∷◌, Some}
+use Rattle.std.specs.Prelude.{length}
 use Rattle.fk_tree.specs.View.{tree_of, processors}
-use Rattle.fk_meaning_store.specs.View.{store_of, processors_of}
+use Rattle.fk_meaning_store.specs.View.{store_of}
 use Rattle.fk_meaning_state.specs.View.{setting_of}
 use Rattle.fk_meaning.specs.Processor.{Setting}
-use Rattle.fk_meaning.specs.Round.{State, Round, result, is_possible, IsStopped}
+use Rattle.fk_meaning.specs.Round.{Round, result, is_possible, IsStopped}
 use Rattle.fk_meaning_operation.specs.declared.kinds.Joint.{Joint}
 use Rattle.fk_core.specs.declared.op.CoreOp.{CoreOp}
-use Rattle.fk_core.specs.Next.{Position, next}
-use Rattle.fk_replay_rounds.specs.Own.{AreOwn}
-use Rattle.fk_replay_phases.specs.Present.{AreNone, present, numbers_of}
-use Rattle.fk_replay_phases.specs.Actors.{HaveNone, runners_of, fault_of}
-use Rattle.fk_replay_phases.specs.Modes.{HaveModes}
+use Rattle.fk_core.specs.Next.{next}
+use Rattle.fk_replay_phases.specs.Present.{present, numbers_of}
+use Rattle.fk_replay_phases.specs.Actors.{fault_of}
 use Rattle.fk_replay_phases.specs.declared.phases.Fault.{Fault}
 use Rattle.fk_replay_able.specs.Known.{DoesLowest}
 use Rattle.fk_replay_arrivals.specs.Arrived.{arrived_in}
-use Rattle.fk_replay.specs.declared.run.Run.{Run}
-use Rattle.fk_replay.specs.declared.rounds.Outcome.{Outcome}
-use Rattle.fk_replay.specs.declared.rounds.Outcome.TheVariants.{Possible, Stopped, NotPossible}
-
--- the state that a run holds, which hasn't faulted
-abbrev pub state_of : Run → State Position
-state_of run = record {
-  store = store_of run.store;
-  tree = tree_of run.tree;
-  runners = runners_of run.actors.items;
-  fault = None;
-}
-
--- nobody is in a round, and all parts have the same processors
-pub record IsRun (run : Run) : Type 0 where
-  pub few : processors run.tree ≤ 1024
-  pub setting : run.setting.processors ≡ processors run.tree
-  pub store : processors_of run.store ≡ processors run.tree
-  pub actors : vec_len run.actors ≡ processors run.tree
-  pub counts : AreNone (processors run.tree) run.counts.items
-  pub free : HaveNone run.actors.items
-  pub modes : HaveModes (tree_of run.tree) run.actors.items
-  pub own : AreOwn (runners_of run.actors.items)
+use Rattle.fk_replay_run.specs.declared.run.Run.{Run}
+use Rattle.fk_replay_run.specs.Runs.{IsRun, state_of}
+use Rattle.fk_replay_take.specs.declared.rounds.Outcome.{Outcome}
+use Rattle.fk_replay_take.specs.declared.rounds.Outcome.TheVariants.{Possible, Stopped, NotPossible}
 
 module _ (core : List CoreOp) (round : Round) (old new : Run) where
   abbrev pub set_in : Setting

@@ -3,15 +3,15 @@ use Rattle.std.specs.Prelude.{◌≡◌, ℕ, ◌<◌, ◌≤◌, List, [], None
 use Rattle.fk_tree.specs.View.{tree_of, processors}
 use Rattle.fk_meaning_state.specs.View.{setting_of}
 use Rattle.fk_meaning.specs.Processor.{Setting}
+use Rattle.fk_meaning.specs.Processor as processor
 use Rattle.fk_meaning.specs.Schedule.{first_processor}
 use Rattle.fk_core.specs.Next.{Position, position, list_opening}
 use Rattle.fk_replay_rounds.specs.declared.mode.Mode.TheVariants.{Apart}
 use Rattle.fk_replay_phases.specs.declared.actor.Actor.{Actor}
 use Rattle.fk_replay_steps.specs.Steps.{runner_of}
-use Rattle.fk_replay.specs.declared.run.Run.{Run}
-use Rattle.fk_replay.specs.Arrivals.{NoneArrived}
-use Rattle.fk_replay.specs.Taken.{IsRun, state_of}
-use Rattle.fk_replay.specs.Replay as replay
+use Rattle.fk_replay_run.specs.declared.run.Run.{Run}
+use Rattle.fk_replay_run.specs.Arrivals.{NoneArrived}
+use Rattle.fk_replay_run.specs.Runs.{IsRun, state_of}
 
 module _ (set : Setting) (main : ℕ) (firsts : List ℕ) where
   -- a processor at the beginning of `main`
@@ -29,7 +29,7 @@ module _ (set : Setting) (main : ℕ) (firsts : List ℕ) where
 pub record IsOpening (main : ℕ) (words firsts input : List ℕ) (p : ℕ) (r : Run) : Type 0 where
   pub run : IsRun r
   pub tree : processors r.tree ≡ p
-  pub setting : setting_of r.setting ≡ replay.setting_in [] main words firsts input p
+  pub setting : setting_of r.setting ≡ processor.setting_of p words input
   pub state : state_of r ≡ list_opening main words firsts input p
   pub given : (tree_of r.tree).given ≤ 1
   pub pace : r.pace ≡ replicate p None

@@ -3,8 +3,8 @@ use Rattle.std.proofs.Common.{◌≡◌}
 use Rattle.fk_tree.specs.View.{tree_of}
 use Rattle.fk_replay_text.specs.View.{range_of}
 use Rattle.fk_replay_phases.specs.Present.{present, all_acting}
-use Rattle.fk_replay.proofs.Ranges.{RangeAt}
-use Rattle.fk_replay.proofs.enlist.enlist_range.Given as goal
+use Rattle.fk_replay_take.proofs.Ranges.{RangeAt}
+use Rattle.fk_replay_take.proofs.enlist.enlist_range.Given as goal
 
 abbrev pub invariant-loop-number : goal.invariant-loop-number
 invariant-loop-number l = record {

@@ -19,16 +19,16 @@ use Rattle.fk_meaning_operation.specs.declared.kinds.Joint.{Joint}
 use Rattle.fk_meaning_operation.specs.declared.kinds.Joint.TheVariants.{Alone, Starting, AtBarrier, Closing, Resuming}
 use Rattle.fk_replay_arrivals.specs.declared.arrived.Arrived.{Arrived}
 use Rattle.fk_replay_arrivals.specs.Arrived.{number_for, arrived_in}
-use Rattle.fk_replay.specs.Arrivals.{NoneArrived}
+use Rattle.fk_replay_run.specs.Arrivals.{NoneArrived}
 use Rattle.fk_tree.specs.View.{tree_of, processors}
 use Rattle.fk_meaning_store.specs.Store.{Store, opening_store}
 use Rattle.fk_meaning_store.specs.View.{store_of, processors_of}
 use Rattle.fk_meaning_state.specs.View.{setting_of}
 use Rattle.fk_meaning.specs.Processor as processor
 use Rattle.fk_replay_phases.specs.Present.{AreNone}
-use Rattle.fk_replay.specs.declared.run.Run.{Run}
-use Rattle.fk_replay.specs.Taken.{state_of}
-use Rattle.fk_replay.specs.Openings.{IsFirst, AreFirst, IsOpening}
+use Rattle.fk_replay_run.specs.declared.run.Run.{Run}
+use Rattle.fk_replay_run.specs.Runs.{state_of}
+use Rattle.fk_replay_run.specs.Openings.{IsFirst, AreFirst, IsOpening}
 
 module _ (set : Setting) (main : ℕ) (firsts : List ℕ) where
   is_runner : (h : ℕ) (a : Actor) → IsFirst set main firsts h a → runner_of a.runner ≡ record { left = position main []; has = first_processor set (slice_index firsts) h }

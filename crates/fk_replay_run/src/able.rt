@@ -4,10 +4,10 @@ ghost use Rattle.std.specs.Prelude.{◌≡◌, ◌^◌, ◌<◌, None, length, r
 ghost use Rattle.fk_tree.specs.View.{processors};
 ghost use Rattle.fk_meaning_state.specs.View.{setting_of};
 ghost use Rattle.fk_replay_phases.specs.Present.{numbers_of};
-ghost use Rattle.fk_replay.specs.Steady.{IsSteady};
-ghost use Rattle.fk_replay.specs.Taken.{IsRun, state_of};
-ghost use Rattle.fk_replay.specs.Passed.{HasTold, KnowsAbout};
-ghost use Rattle.fk_replay.specs.Arrivals.{NoneArrived};
+ghost use Rattle.fk_replay_run.specs.Steady.{IsSteady};
+ghost use Rattle.fk_replay_run.specs.Runs.{IsRun, state_of};
+ghost use Rattle.fk_replay_run.specs.Told.{HasTold, KnowsAbout};
+ghost use Rattle.fk_replay_run.specs.Arrivals.{NoneArrived};
 
 use crate::run::Run;
 use fk_core::CoreOp;
@@ -15,7 +15,7 @@ use fk_replay_arrivals::{arrive, tell};
 
 impl Run {
     /// Tells who could act at first.
-    pub(crate) fn begin(&mut self, ops: &[CoreOp])
+    pub fn begin(&mut self, ops: &[CoreOp])
         requires few { length ops.now < 2 ^ 32 }
         requires run { IsRun self.old }
         requires steady { IsSteady ops.now (setting_of self.old.setting) (state_of self.old) }
@@ -30,7 +30,7 @@ impl Run {
     }
 
     /// Tells who could act after a round, from the next one on.
-    pub(crate) fn tell(&mut self, ops: &[CoreOp], next: u32)
+    pub fn tell(&mut self, ops: &[CoreOp], next: u32)
         requires few { length ops.now < 2 ^ 32 }
         requires run { IsRun self.old }
         requires steady { IsSteady ops.now (setting_of self.old.setting) (state_of self.old) }
