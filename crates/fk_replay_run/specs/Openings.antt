@@ -4,6 +4,8 @@ use Rattle.fk_tree.specs.View.{tree_of, processors}
 use Rattle.fk_meaning_state.specs.View.{setting_of}
 use Rattle.fk_meaning.specs.Processor.{Setting}
 use Rattle.fk_meaning.specs.Processor as processor
+use Rattle.fk_meaning.specs.Processor as processor
+use Rattle.fk_meaning.specs.Processor as processor
 use Rattle.fk_meaning.specs.Schedule.{first_processor}
 use Rattle.fk_core.specs.Next.{Position, position, list_opening}
 use Rattle.fk_replay_rounds.specs.declared.mode.Mode.TheVariants.{Apart}

@@ -68,7 +68,7 @@ module _ (core : List CoreOp) (set : Setting) (round : Round) (s : State Positio
   stepping_is after store fault asks = ap (λ r. r.acting) asks.phase
 
   -- the joint operations that processors have taken
-  taken_joint : (after : List Actor) (store : Store) (fault : Option code.Fault) → AreServed core set round s after store fault → (h : ℕ) → joint_by core false (slice_get after h) ≡ rounds.joint_at (begin_all (next core) set round s.runners) h
+  pub taken_joint : (after : List Actor) (store : Store) (fault : Option code.Fault) → AreServed core set round s after store fault → (h : ℕ) → joint_by core false (slice_get after h) ≡ rounds.joint_at (begin_all (next core) set round s.runners) h
   taken_joint after store fault asks h =
       sym (acting_joint core after h) ∙ ap (λ xs. rounds.joint_at xs h) (sym (stepping_is after store fault asks))
       ∙ request_joints 0 (asking (next core) set round s.runners) s.store h ∙ asking_joints (next core) set round s.runners h

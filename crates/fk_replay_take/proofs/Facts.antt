@@ -127,17 +127,22 @@ module _ (core : List CoreOp) (setting : Setting) (round : Round) (s : State Pos
         others_of mid (asking (next core) setting round s.runners) begun h a is r.0 (absent_asking (next core) setting round s.runners h r.0 many r.1 none);
   }
 
+  -- who isn't in the round has taken nothing
+  pub free_after : (after : List Actor) (store : Store) (fault : Option code.Fault) → length round ≡ length s.runners → length after ≡ length s.runners → AreServed core setting round s after store fault
+      → (h : ℕ) (a : Actor) → slice_get after h ≡ Some a → slice_index round h ≡ 0 → a.taken ≡ None
+  free_after after store fault many all asks h a is none =
+      let lt = within_of after h a is in
+      let r = runner_at s.runners h (omega arith) in
+      others_of after (stepping (next core) setting round s) (sym (stepping_is core setting round s after store fault asks)) h a is r.0
+      (absent_requests 0 (asking (next core) setting round s.runners) s.store h (taking r.0 None) (absent_asking (next core) setting round s.runners h r.0 many r.1 none) refl)
+
   pub in_round_after : (acting : List acts.Acting) (after : List Actor) (store : Store) (fault : Option code.Fault) → numbers_of acting ≡ present 0 round → length round ≡ length s.runners → length after ≡ length s.runners
       → AreServed core setting round s after store fault → AreInRound acting after
   in_round_after acting after store fault numbers many all asks = record {
     round = round;
     many = many ∙ sym all;
     numbers = numbers;
-    others = λ h a is none.
-        let lt = within_of after h a is in
-        let r = runner_at s.runners h (omega arith) in
-        others_of after (stepping (next core) setting round s) (sym (stepping_is core setting round s after store fault asks)) h a is r.0
-        (absent_requests 0 (asking (next core) setting round s.runners) s.store h (taking r.0 None) (absent_asking (next core) setting round s.runners h r.0 many r.1 none) refl);
+    others = free_after after store fault many all asks;
   }
 
   pub own_mid : (mid : List Actor) → AreOwn s.runners → actings_of core mid ≡ asking (next core) setting round s.runners → AreOwn (runners_of mid)

@@ -91,7 +91,7 @@ module _ (core : List CoreOp) (tree : Tree) (actors : List Actor) (p : ℕ) (sou
   due_at : (a : Actor) (due : Due) → a.taken ≡ Some due → due_of core a ≡ Some (step_at core (callers_of a.runner) due)
   due_at a due e = ap (option_map (step_at core (callers_of a.runner))) e
 
-  tells : (h : ℕ) (a : Actor) → slice_get actors h ≡ Some a → KeepsOrDoes (known.does (tree.places h)) (due_of core a)
+  pub tells : (h : ℕ) (a : Actor) → slice_get actors h ≡ Some a → KeepsOrDoes (known.does (tree.places h)) (due_of core a)
   tells h a is = subst (λ (m : ℕ). KeepsOrDoes (known.does (tree.places m)) (due_of core a)) (let e : 0 + h ≡ h = omega arith in e)
       (steps_at tree known.does 0 (actings_of core actors) h (acting_of core a) known.steps (get_map (acting_of core) actors h a is)).1
 

@@ -26,7 +26,7 @@ use Rattle.fk_replay_run.specs.declared.run.Run.{Run}
 use Rattle.fk_replay_run.specs.Steady.{IsSteady}
 use Rattle.fk_replay_take.specs.Asked.{AreServed}
 use Rattle.fk_replay_run.specs.Runs.{state_of, IsRun}
-use Rattle.fk_replay_take.specs.Taken.{set_in, IsDone, IsStoppedBy, IsNeither}
+use Rattle.fk_replay_take.specs.Taken.{set_in, HasForgotten, IsDone, IsStoppedBy, IsNeither}
 use Rattle.fk_replay_take.proofs.Composed.{result_is, together, joints_up_to, is_it_possible, not_begun, not_fitting, not_stopping}
 
 abbrev made : Store → Tree → List (Runner Position) → State Position
@@ -47,6 +47,7 @@ module _ (core : List CoreOp) (round : Round) (old : Run) where
     pub pace : new.pace ≡ old.pace
     pub numbers : numbers_of new.acting.items ≡ present 0 round
     pub given : (tree_of new.tree).given ≤ (tree_of old.tree).given + 2 ^ 28
+    pub arrived : HasForgotten core round old new
 
   pub is_done : (new : Run) (after : List Actor) → IsRun old → IsSteady core (setting_of old.setting) (state_of old)
       → AreServed core (setting_of old.setting) round (state_of old) after (store_of new.store) None
@@ -71,6 +72,7 @@ module _ (core : List CoreOp) (round : Round) (old : Run) where
     pace = sizes.pace;
     numbers = sizes.numbers;
     given = sizes.given;
+    arrived = sizes.arrived;
   }
     where
       is : result (next core) (setting_of old.setting) round (state_of old) ≡ tree_phase (tree_of old.tree) (store_of new.store) (actings_of core after) None
