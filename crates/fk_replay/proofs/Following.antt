@@ -25,10 +25,12 @@ use Rattle.fk_replay_schedules.proofs.Paced.{told_is_late, late_is_told, kept, p
 use Rattle.fk_replay_steps.specs.Pace.{Absences, IsLateNow, IsLeastLate, since}
 use Rattle.fk_replay_phases.specs.Actors.{runners_of, fault_of}
 use Rattle.fk_replay_phases.specs.declared.phases.Fault.{Fault}
-use Rattle.fk_replay.specs.declared.run.Run.{Run}
-use Rattle.fk_replay.specs.Taken.{IsRun, IsDone, IsStoppedBy, state_of}
-use Rattle.fk_replay.specs.Steady.{IsSteady}
-use Rattle.fk_replay.specs.Passed.{AreOnTime, IsFirstLate, KnowsAbout, HasTold, HasPassed, IsGood, IsTooLate, IsRefused, IsSteadyBehind}
+use Rattle.fk_replay_run.specs.declared.run.Run.{Run}
+use Rattle.fk_replay_run.specs.Runs.{IsRun, state_of}
+use Rattle.fk_replay_take.specs.Taken.{IsDone, IsStoppedBy}
+use Rattle.fk_replay_run.specs.Steady.{IsSteady}
+use Rattle.fk_replay.specs.Passed.{AreOnTime, IsFirstLate, HasPassed, IsGood, IsTooLate, IsRefused, IsSteadyBehind}
+use Rattle.fk_replay_run.specs.Told.{KnowsAbout, HasTold}
 use Rattle.fk_replay.specs.Followed.{HasDone, HasStopped, HasFollowed, IsUnlawful, AreSteady, AreFirstPossible}
 use Rattle.fk_replay.proofs.Passing.{same_run}
 

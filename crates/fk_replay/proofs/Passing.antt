@@ -13,10 +13,12 @@ use Rattle.fk_replay_steps.specs.Pace.{Absences, IsLeastLate, since}
 use Rattle.fk_replay_phases.specs.Present.{present, numbers_of}
 use Rattle.fk_replay_phases.specs.Actors.{fault_of}
 use Rattle.fk_replay_phases.specs.declared.phases.Fault.{Fault}
-use Rattle.fk_replay.specs.declared.run.Run.{Run}
-use Rattle.fk_replay.specs.Steady.{IsSteady}
-use Rattle.fk_replay.specs.Taken.{IsRun, IsDone, IsStoppedBy, IsNeither, state_of}
-use Rattle.fk_replay.specs.Passed.{TellsLate, HasTold, HasTaken, HasPassed, IsUntaken, IsGood, IsRefused, IsSteadyBehind}
+use Rattle.fk_replay_run.specs.declared.run.Run.{Run}
+use Rattle.fk_replay_run.specs.Steady.{IsSteady}
+use Rattle.fk_replay_run.specs.Runs.{IsRun, state_of}
+use Rattle.fk_replay_take.specs.Taken.{IsDone, IsStoppedBy, IsNeither}
+use Rattle.fk_replay.specs.Passed.{TellsLate, HasTaken, HasPassed, IsUntaken, IsGood, IsRefused, IsSteadyBehind}
+use Rattle.fk_replay_run.specs.Told.{HasTold}
 
 -- the same parts, but for the pace and for who has arrived
 pub same_run : (run new : Run) → new ≡ record run { pace = new.pace; arrived = new.arrived } → IsRun run → IsRun new

@@ -23,12 +23,12 @@ use Rattle.fk_replay_schedules.proofs.Prefixes.{first_possible}
 use Rattle.fk_replay_phases.specs.Actors.{runners_of, fault_of}
 use Rattle.fk_replay_phases.specs.declared.phases.Fault.{Fault}
 use Rattle.fk_replay.specs.declared.end.Replayed.{Replayed}
-use Rattle.fk_replay.specs.declared.run.Run.{Run}
-use Rattle.fk_replay.specs.Steady.{IsSteady}
-use Rattle.fk_replay.specs.Taken.{state_of}
-use Rattle.fk_replay.specs.Passed.{HasTold}
+use Rattle.fk_replay_run.specs.declared.run.Run.{Run}
+use Rattle.fk_replay_run.specs.Steady.{IsSteady}
+use Rattle.fk_replay_run.specs.Runs.{state_of}
+use Rattle.fk_replay_run.specs.Told.{HasTold}
 use Rattle.fk_replay.specs.Followed.{HasDone, HasFollowed, IsUnlawful, AreSteady}
-use Rattle.fk_replay.specs.Openings.{IsOpening}
+use Rattle.fk_replay_run.specs.Openings.{IsOpening}
 use Rattle.fk_replay.specs.Replay.{IsOrderly, IsSafe, IsReplay, IsAnswer, setting_in, first_in, stand_in}
 use Rattle.fk_replay.proofs.Passing.{same_run}
 use Rattle.fk_replay.proofs.Following.{lawful_done, output_done, stand_done, lawful_stopped, output_stopped, stand_stopped}

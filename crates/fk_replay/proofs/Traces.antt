@@ -18,11 +18,12 @@ use Rattle.fk_replay_text.specs.Rounds.{round_of, ranges_at, schedule_of}
 use Rattle.fk_replay_schedules.specs.Moments.{Moments, AreMoments, AreToCome}
 use Rattle.fk_replay_schedules.proofs.Moments.{to_come_first, later, at_most_last, ranges_are, ranges_there, empty_before, empty_behind, to_come_next, schedule_length, round_at, empty_length, nobody_acts}
 use Rattle.fk_replay_phases.specs.declared.phases.Fault.{Fault}
-use Rattle.fk_replay.specs.declared.run.Run.{Run}
-use Rattle.fk_replay.specs.Ranges.{AreRanges}
-use Rattle.fk_replay.specs.Taken.{state_of}
-use Rattle.fk_replay.specs.Steady.{IsSteady}
-use Rattle.fk_replay.specs.Passed.{AreOnTime, TellsFirstLate, HasPassed, IsRefused, KnowsAbout, IsSteadyBehind}
+use Rattle.fk_replay_run.specs.declared.run.Run.{Run}
+use Rattle.fk_replay_take.specs.Ranges.{AreRanges}
+use Rattle.fk_replay_run.specs.Runs.{state_of}
+use Rattle.fk_replay_run.specs.Steady.{IsSteady}
+use Rattle.fk_replay.specs.Passed.{AreOnTime, TellsFirstLate, HasPassed, IsRefused, IsSteadyBehind}
+use Rattle.fk_replay_run.specs.Told.{KnowsAbout}
 use Rattle.fk_replay.specs.Followed.{HasDone, HasFollowed, HasStopped, IsUnlawful, AreSteady}
 use Rattle.fk_replay.proofs.Following.{IsEmptyAt, empties_done, empties_late, steady_behind, round_done, round_stopped, round_refused}
 

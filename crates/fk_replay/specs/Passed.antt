@@ -1,22 +1,21 @@
 -- What becomes of a run and its pace in one round of a trace, and in rounds without acts.
-use Rattle.std.specs.Prelude.{◌≡◌, ℕ, suc, ◌<◌, ◌≤◌, Bool, true, false, ◌⊎◌, List, [], Option}
-use Rattle.std.specs.Prelude.{Some, None, length}
-use Rattle.fk_tree.specs.View.{processors}
+use Rattle.std.specs.Prelude.{◌≡◌, ℕ, suc, ◌<◌, ◌≤◌, Bool, true, false, ◌⊎◌, List, Option}
+use Rattle.std.specs.Prelude.{Some, None}
 use Rattle.fk_meaning_state.specs.View.{setting_of}
 use Rattle.fk_meaning.specs.Round.{Round, is_possible, result, IsStopped}
 use Rattle.fk_core.specs.declared.op.CoreOp.{CoreOp}
-use Rattle.fk_core.specs.Next.{Position, next}
+use Rattle.fk_core.specs.Next.{next}
 use Rattle.fk_replay_text.specs.declared.fault.ReplayFault.{ReplayFault}
 use Rattle.fk_replay_text.specs.declared.fault.ReplayFault.TheVariants.{BadTrace, NotPossible}
 use Rattle.fk_replay_text.specs.declared.fault.ReplayFault.TheVariants.{Pace, Memory}
-use Rattle.fk_replay_schedules.specs.Paced.{Leaves, Begins}
-use Rattle.fk_replay_able.specs.Known.{KnowsAble}
+use Rattle.fk_replay_schedules.specs.Paced.{Leaves}
 use Rattle.fk_replay_steps.specs.Pace.{Absences, IsLeastLate, since}
 use Rattle.fk_replay_phases.specs.declared.phases.Fault.{Fault}
-use Rattle.fk_replay_arrivals.specs.Arrived.{arrived_in, is_known}
-use Rattle.fk_replay.specs.declared.run.Run.{Run}
-use Rattle.fk_replay.specs.Steady.{IsSteady}
-use Rattle.fk_replay.specs.Taken.{IsDone, IsStoppedBy, state_of}
+use Rattle.fk_replay_run.specs.declared.run.Run.{Run}
+use Rattle.fk_replay_run.specs.Steady.{IsSteady}
+use Rattle.fk_replay_run.specs.Told.{HasTold}
+use Rattle.fk_replay_take.specs.Taken.{IsDone, IsStoppedBy}
+use Rattle.fk_replay_run.specs.Runs.{state_of}
 
 -- ---- late rounds
 
@@ -44,23 +43,6 @@ TellsFirstLate absences behind last (Pace at h) = IsFirstLate absences behind la
 TellsFirstLate absences behind last (BadTrace line) = ⊥
 TellsFirstLate absences behind last (NotPossible at) = ⊥
 TellsFirstLate absences behind last Memory = ⊥
-
--- ---- who could act
-
-module _ (core : List CoreOp) where
-  -- it is known who could act, but for what is changed by those who are still to come
-  pub record KnowsAbout (run : Run) (coming : List ℕ) : Type 0 where
-    pub pace : length run.pace ≡ processors run.tree
-    pub arrived : length run.arrived.items ≡ processors run.tree
-    pub able : KnowsAble (next core) (state_of run) coming (is_known run.pace)
-        (arrived_in run.arrived.items)
-
-  -- all those who could act before a round are told
-  pub record HasTold (round : ℕ) (old new : Run) : Type 0 where
-    pub kept : new ≡ record old { pace = new.pace; arrived = new.arrived }
-    pub begins : Begins (next core) (setting_of old.setting) (state_of old) round
-        (since old.pace) (since new.pace)
-    pub knows : KnowsAbout new []
 
 -- ---- one round
 

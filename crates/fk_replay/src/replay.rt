@@ -11,20 +11,21 @@ ghost use Rattle.fk_replay_schedules.specs.Paced.{Leaves};
 ghost use Rattle.fk_replay_schedules.specs.Moments.{AreMoments};
 ghost use Rattle.fk_replay_steps.specs.Pace.{IsLeastLate, since};
 ghost use Rattle.fk_replay_phases.specs.Present.{present, numbers_of};
-ghost use Rattle.fk_replay.specs.Ranges.{AreRanges};
-ghost use Rattle.fk_replay.specs.Steady.{IsSteady};
-ghost use Rattle.fk_replay.specs.Taken.{IsRun, state_of};
-ghost use Rattle.fk_replay.specs.Passed.{TellsLate, AreOnTime, TellsFirstLate, KnowsAbout};
+ghost use Rattle.fk_replay_take.specs.Ranges.{AreRanges};
+ghost use Rattle.fk_replay_run.specs.Steady.{IsSteady};
+ghost use Rattle.fk_replay_run.specs.Runs.{IsRun, state_of};
+ghost use Rattle.fk_replay.specs.Passed.{TellsLate, AreOnTime, TellsFirstLate};
+ghost use Rattle.fk_replay_run.specs.Told.{KnowsAbout};
 ghost use Rattle.fk_replay.specs.Passed.{HasTaken, IsUntaken, HasPassed, IsRefused, IsSteadyBehind};
 ghost use Rattle.fk_replay.specs.Followed.{AreSteady, HasDone, HasFollowed, IsUnlawful};
 ghost use Rattle.fk_replay.specs.Replay.{IsOfText, IsOrderly, IsSafe, IsAnswer, schedule_in};
 
 use crate::end::{Replayed, end_of};
-use crate::rounds::{Outcome, take_round};
-use crate::run::Run;
 use fk_core::CoreOp;
 use fk_replay_phases::{Acting, Fault};
+use fk_replay_run::Run;
 use fk_replay_steps::Pace;
+use fk_replay_take::{Outcome, take_round};
 use fk_replay_text::{Acts, ReplayFault, Trace};
 use std::alloc::{AllocError, Global};
 
