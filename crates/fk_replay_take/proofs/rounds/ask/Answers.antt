@@ -29,9 +29,9 @@ do_requests-requires c =
     let ranges = map range_of c.args.acts.now in
     let counts_are = c.deref-2.ensures.value ∙ c.in_ok-enlist.ensures.counts in
     let acting_are = c.deref.ensures.value ∙ c.in_ok-enlist.ensures.acting ∙ ap (λ (cs : Round). all_acting (tree_of old.tree) (present 0 cs)) (sym c.deref-2.ensures.value) in
-    let a = asks c.args.ops.now ranges old c.requires.run c.requires.ranges c.deref.result.now c.deref-2.result.now c.begin_all-can.new.actors.items c.in_ok-can.can counts_are acting_are
+    let a = asks c.args.ops.now ranges old c.requires.run c.requires.ranges c.deref.result.now c.deref-2.result.now c.begin_all.new.actors.items c.in_ok-can.can counts_are acting_are
     c.in_ok-can.ensures.begun c.if-not-can.false c.deref-3.result.now (c.deref-3.ensures.value ∙ sym c.deref.ensures.value) in
-    let held = c.begin_all-can.new.actors.ok.0 in
+    let held = c.begin_all.new.actors.ok.0 in
     let many = a.many in
     record {
       few = c.requires.few;
@@ -47,7 +47,7 @@ returns-then-not-can c =
     let ranges = map range_of c.args.acts.now in
     let counts_are = c.deref-2.ensures.value ∙ c.in_ok-enlist.ensures.counts in
     let acting_are = c.deref.ensures.value ∙ c.in_ok-enlist.ensures.acting ∙ ap (λ (cs : Round). all_acting (tree_of old.tree) (present 0 cs)) (sym c.deref-2.ensures.value) in
-    barred c.args.ops.now ranges old c.requires.run c.requires.ranges c.deref.result.now c.deref-2.result.now c.begin_all-can.new.actors.items c.in_ok-can.can counts_are acting_are
+    barred c.args.ops.now ranges old c.requires.run c.requires.ranges c.deref.result.now c.deref-2.result.now c.begin_all.new.actors.items c.in_ok-can.can counts_are acting_are
     c.in_ok-can.ensures.begun c.if-not-can.true
 
 pub returns-in-Some : goal.returns-in-Some
@@ -56,7 +56,7 @@ returns-in-Some c =
     let ranges = map range_of c.args.acts.now in
     let counts_are = c.deref-2.ensures.value ∙ c.in_ok-enlist.ensures.counts in
     let acting_are = c.deref.ensures.value ∙ c.in_ok-enlist.ensures.acting ∙ ap (λ (cs : Round). all_acting (tree_of old.tree) (present 0 cs)) (sym c.deref-2.ensures.value) in
-    is_asked c.args.ops.now ranges old c.requires.run c.requires.ranges c.deref.result.now c.deref-2.result.now c.begin_all-can.new.actors.items c.in_ok-can.can counts_are acting_are
+    is_asked c.args.ops.now ranges old c.requires.run c.requires.ranges c.deref.result.now c.deref-2.result.now c.begin_all.new.actors.items c.in_ok-can.can counts_are acting_are
     c.in_ok-can.ensures.begun c.if-not-can.false c.requires.steady _ (Some c.in-Some.fault) refl refl refl refl (sym c.deref-2.ensures.value) (sym c.deref.ensures.value) c.do_requests.ensures.processors
     (let h = c.in_ok-do_requests in ?)
 
@@ -66,6 +66,6 @@ returns-in-None c =
     let ranges = map range_of c.args.acts.now in
     let counts_are = c.deref-2.ensures.value ∙ c.in_ok-enlist.ensures.counts in
     let acting_are = c.deref.ensures.value ∙ c.in_ok-enlist.ensures.acting ∙ ap (λ (cs : Round). all_acting (tree_of old.tree) (present 0 cs)) (sym c.deref-2.ensures.value) in
-    is_asked c.args.ops.now ranges old c.requires.run c.requires.ranges c.deref.result.now c.deref-2.result.now c.begin_all-can.new.actors.items c.in_ok-can.can counts_are acting_are
+    is_asked c.args.ops.now ranges old c.requires.run c.requires.ranges c.deref.result.now c.deref-2.result.now c.begin_all.new.actors.items c.in_ok-can.can counts_are acting_are
     c.in_ok-can.ensures.begun c.if-not-can.false c.requires.steady _ None refl refl refl refl (sym c.deref-2.ensures.value) (sym c.deref.ensures.value) c.do_requests.ensures.processors
     (let h = c.in_ok-do_requests in ?)
