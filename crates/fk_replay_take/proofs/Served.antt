@@ -39,7 +39,11 @@ pub modes_many : (xs ys : List Actor) → modes_of ys ≡ modes_of xs → length
 modes_many xs ys e = sym (length-map ys (λ (a : Actor). a.mode)) ∙ ap length e ∙ length-map xs (λ (a : Actor). a.mode)
 
 pub have_modes : (tree : t.Tree) (xs ys : List Actor) → modes_of ys ≡ modes_of xs → HaveModes tree xs → HaveModes tree ys
-have_modes tree xs ys e modes = record { each = λ h y is. at 0 xs ys e h y is (λ k x found. modes.each k x found) }
+have_modes tree xs ys e modes = record {
+  each = λ h y is.
+      at 0 xs ys e h y is (λ k x found. modes.each k x found ∙ ap (λ (n : ℕ). mode_of (t.kind tree (tree.places n))) (let n : k ≡ 0 + k = omega arith in n))
+      ∙ ap (λ (n : ℕ). mode_of (t.kind tree (tree.places n))) (let n : 0 + h ≡ h = omega arith in n);
+}
   where
     at : (first : ℕ) (bs ds : List Actor) → modes_of ds ≡ modes_of bs → (h : ℕ) (y : Actor) → slice_get ds h ≡ Some y
         → ((k : ℕ) (x : Actor) → slice_get bs k ≡ Some x → x.mode ≡ mode_of (t.kind tree (tree.places (first + k)))) → y.mode ≡ mode_of (t.kind tree (tree.places (first + h)))

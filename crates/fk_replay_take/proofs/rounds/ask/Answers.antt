@@ -3,6 +3,9 @@ use Rattle.std.proofs.Common.{◌≡◌, ℕ, ◌+◌, ◌<◌, ◌≤◌, List,
 use Rattle.fk_tree.specs.View.{tree_of, processors}
 use Rattle.fk_meaning.specs.Round.{Round}
 use Rattle.fk_replay_text.specs.View.{range_of}
+use Rattle.fk_meaning_store.specs.View.{store_of}
+use Rattle.fk_replay_phases.specs.declared.phases.Fault.{Fault}
+use Rattle.fk_replay_phases.specs.Actors.{HaveAsked}
 use Rattle.fk_replay_phases.specs.Present.{present, all_acting}
 use Rattle.fk_replay_take.proofs.Asking.{begins, asks, barred, is_asked}
 use Rattle.fk_replay_take.proofs.rounds.ask.Goals as goal
@@ -47,8 +50,10 @@ returns-then-not-can c =
     let ranges = map range_of c.args.acts.now in
     let counts_are = c.deref-2.ensures.value ∙ c.in_ok-enlist.ensures.counts in
     let acting_are = c.deref.ensures.value ∙ c.in_ok-enlist.ensures.acting ∙ ap (λ (cs : Round). all_acting (tree_of old.tree) (present 0 cs)) (sym c.deref-2.ensures.value) in
-    barred c.args.ops.now ranges old c.requires.run c.requires.ranges c.deref.result.now c.deref-2.result.now c.begin_all.new.actors.items c.in_ok-can.can counts_are acting_are
-    c.in_ok-can.ensures.begun c.if-not-can.true
+    record {
+      asked = barred c.args.ops.now ranges old c.requires.run c.requires.ranges c.deref.result.now c.deref-2.result.now c.begin_all.new.actors.items c.in_ok-can.can counts_are acting_are
+          c.in_ok-can.ensures.begun c.if-not-can.true;
+    }
 
 pub returns-in-Some : goal.returns-in-Some
 returns-in-Some c =
@@ -56,9 +61,11 @@ returns-in-Some c =
     let ranges = map range_of c.args.acts.now in
     let counts_are = c.deref-2.ensures.value ∙ c.in_ok-enlist.ensures.counts in
     let acting_are = c.deref.ensures.value ∙ c.in_ok-enlist.ensures.acting ∙ ap (λ (cs : Round). all_acting (tree_of old.tree) (present 0 cs)) (sym c.deref-2.ensures.value) in
-    is_asked c.args.ops.now ranges old c.requires.run c.requires.ranges c.deref.result.now c.deref-2.result.now c.begin_all.new.actors.items c.in_ok-can.can counts_are acting_are
-    c.in_ok-can.ensures.begun c.if-not-can.false c.requires.steady _ (Some c.in-Some.fault) refl refl refl refl (sym c.deref-2.ensures.value) (sym c.deref.ensures.value) c.do_requests.ensures.processors
-    (let h = c.in_ok-do_requests in ?)
+    record {
+      asked = is_asked c.args.ops.now ranges old c.requires.run c.requires.ranges c.deref.result.now c.deref-2.result.now c.begin_all.new.actors.items c.in_ok-can.can counts_are acting_are
+          c.in_ok-can.ensures.begun c.if-not-can.false c.requires.steady _ (Some c.in-Some.fault) refl refl refl refl (sym c.deref-2.ensures.value) (sym c.deref.ensures.value) c.do_requests.ensures.processors
+          (subst (λ (o : Option Fault). HaveAsked c.args.ops.now (store_of old.store) (store_of c.do_requests.new.store) c.begin_all.new.actors.items c.do_requests.new.actors.items o) c.in-Some.is c.in_ok-fault.ensures.asked);
+    }
 
 pub returns-in-None : goal.returns-in-None
 returns-in-None c =
@@ -66,6 +73,8 @@ returns-in-None c =
     let ranges = map range_of c.args.acts.now in
     let counts_are = c.deref-2.ensures.value ∙ c.in_ok-enlist.ensures.counts in
     let acting_are = c.deref.ensures.value ∙ c.in_ok-enlist.ensures.acting ∙ ap (λ (cs : Round). all_acting (tree_of old.tree) (present 0 cs)) (sym c.deref-2.ensures.value) in
-    is_asked c.args.ops.now ranges old c.requires.run c.requires.ranges c.deref.result.now c.deref-2.result.now c.begin_all.new.actors.items c.in_ok-can.can counts_are acting_are
-    c.in_ok-can.ensures.begun c.if-not-can.false c.requires.steady _ None refl refl refl refl (sym c.deref-2.ensures.value) (sym c.deref.ensures.value) c.do_requests.ensures.processors
-    (let h = c.in_ok-do_requests in ?)
+    record {
+      asked = is_asked c.args.ops.now ranges old c.requires.run c.requires.ranges c.deref.result.now c.deref-2.result.now c.begin_all.new.actors.items c.in_ok-can.can counts_are acting_are
+          c.in_ok-can.ensures.begun c.if-not-can.false c.requires.steady _ None refl refl refl refl (sym c.deref-2.ensures.value) (sym c.deref.ensures.value) c.do_requests.ensures.processors
+          (subst (λ (o : Option Fault). HaveAsked c.args.ops.now (store_of old.store) (store_of c.do_requests.new.store) c.begin_all.new.actors.items c.do_requests.new.actors.items o) c.in-None.is c.in_ok-fault.ensures.asked);
+    }

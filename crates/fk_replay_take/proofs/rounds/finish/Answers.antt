@@ -1,7 +1,8 @@
 -- The steps of the tree in a round.
 use Rattle.std.proofs.Common.{◌≡◌, ℕ, ◌+◌, ◌^◌, ◌<◌, ◌≤◌, List, length, map, true, None, refl, sym, ap, ◌∙◌, subst, arith}
 use Rattle.fk_tree.specs.View.{tree_of, processors}
-use Rattle.fk_replay_phases.specs.Present.{AreBelow, numbers_of}
+use Rattle.std.specs.Prelude.{vec_len}
+use Rattle.fk_replay_phases.specs.Present.{AreBelow, AreHighBelow, present, numbers_of}
 use Rattle.fk_replay_take.proofs.Served.{numbers, fit_counts, fit_actors, fit_acting, fit_modes, fit_there, all_low}
 use Rattle.fk_replay_take.proofs.Finishing.{fit, misfit, changes, numbers_below, settles, follow, finishes}
 use Rattle.fk_replay_take.proofs.rounds.finish.Goals as goal
@@ -43,13 +44,51 @@ change_all-requires c =
     }
 
 pub forget_all-requires : goal.forget_all-requires
-forget_all-requires c = ?
+forget_all-requires c =
+    let now = c.args.run.now in
+    let round = c.requires.asked.0 in
+    let old = c.requires.asked.1 in
+    let x = c.requires.asked.2 in
+    let many = ap length c.deref-4.ensures.value ∙ fit_actors c.args.ops.now round old now None x in
+    let below = numbers_below c.args.ops.now round old now x c.deref-3.result.now c.deref-3.ensures.value in
+    record {
+      many = c.requires.arrived ∙ sym many;
+      within = subst (λ (n : ℕ). AreBelow n (numbers_of c.deref-3.result.now)) (ap processors (sym x.tree) ∙ sym many) below;
+    }
 
 pub settle_all-requires : goal.settle_all-requires
-settle_all-requires c = ?
+settle_all-requires c =
+    let now = c.args.run.now in
+    let round = c.requires.asked.0 in
+    let old = c.requires.asked.1 in
+    let x = c.requires.asked.2 in
+    let held = now.actors.ok.0 in
+    let many = fit_actors c.args.ops.now round old now None x in
+    let here : vec_len now.actors ≡ processors now.tree = omega (arith, held, many) in
+    let s = settles c.args.ops.now round old now x c.deref-5.result.now c.deref-5.ensures.value in
+    record {
+      few = c.requires.few;
+      many = here ∙ sym c.change_all.ensures.processors;
+      in_round = s.in_round;
+      high = subst (λ (n : ℕ). AreHighBelow n c.deref-5.result.now) (ap processors (sym x.tree) ∙ sym here) s.high;
+      own = s.own;
+      ready = s.ready;
+    }
 
 pub dismiss-requires : goal.dismiss-requires
-dismiss-requires c = ?
+dismiss-requires c =
+    let now = c.args.run.now in
+    let round = c.requires.asked.0 in
+    let old = c.requires.asked.1 in
+    let x = c.requires.asked.2 in
+    ap numbers_of c.deref-6.ensures.value ∙ numbers c.args.ops.now round old now None x ∙ ap (present 0) (sym x.counts)
 
 pub returns : goal.returns
-returns c = ?
+returns c = λ round old x.
+    let ops = c.args.ops.now in
+    let now = c.args.run.now in
+    let fits = fit ops round old now x true (sym c.fit.ensures ∙ c.if-not-fit.false) in
+    let f = c.change_all.ensures in
+    let g = c.settle_all.ensures in
+    let h = c.dismiss.ensures in
+    ?
