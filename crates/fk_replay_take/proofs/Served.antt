@@ -141,3 +141,11 @@ module _ (core : List CoreOp) (round : Round) (old now : Run) (fault : Option Fa
       let many = round_many in
       let few = x.run.few in
       omega (arith, lt, many, few, high)
+
+  -- ---- what stays as it was
+
+  pub arrived_many : length old.arrived.items ≡ processors old.tree → length now.arrived.items ≡ processors now.tree
+  arrived_many e = ap (λ arrived. length arrived.items) x.arrived ∙ e ∙ sym (ap processors x.tree)
+
+  pub given_low : (tree_of old.tree).given + 2 ^ 28 < 2 ^ 63 → (tree_of now.tree).given + 2 ^ 28 < 2 ^ 63
+  given_low lt = subst (λ (tree : code_tree.Tree). (tree_of tree).given + 2 ^ 28 < 2 ^ 63) (sym x.tree) lt

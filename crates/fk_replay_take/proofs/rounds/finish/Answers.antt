@@ -1,10 +1,17 @@
 -- The steps of the tree in a round.
 use Rattle.std.proofs.Common.{◌≡◌, ℕ, ◌+◌, ◌^◌, ◌<◌, ◌≤◌, List, length, map, true, None, refl, sym, ap, ◌∙◌, subst, arith}
+use Rattle.fk_tree.specs.declared.tree.Tree.{Tree}
+use Rattle.fk_tree.specs.Sound.{IsSound}
 use Rattle.fk_tree.specs.View.{tree_of, processors}
+use Rattle.fk_meaning.specs.Round.{all_changes}
+use Rattle.fk_replay_phases.specs.declared.acting.Acting.{Acting}
+use Rattle.fk_replay_phases.specs.declared.actor.Actor.{Actor}
+use Rattle.fk_replay_phases.specs.Actors.{actings_of}
+use Rattle.fk_replay_arrivals.specs.Arrived.{HaveForgotten}
 use Rattle.std.specs.Prelude.{vec_len}
 use Rattle.fk_replay_phases.specs.Present.{AreBelow, AreHighBelow, present, numbers_of}
-use Rattle.fk_replay_take.proofs.Served.{numbers, fit_counts, fit_actors, fit_acting, fit_modes, fit_there, all_low}
-use Rattle.fk_replay_take.proofs.Finishing.{fit, misfit, changes, numbers_below, settles, follow, finishes}
+use Rattle.fk_replay_take.proofs.Served.{after_many, numbers, fit_counts, fit_actors, fit_acting, fit_modes, fit_there, all_low}
+use Rattle.fk_replay_take.proofs.Finishing.{sound, fit, misfit, changes, numbers_below, settles, at_old, follow, finishes}
 use Rattle.fk_replay_take.proofs.rounds.finish.Goals as goal
 
 pub fit-requires : goal.fit-requires
@@ -81,14 +88,33 @@ dismiss-requires c =
     let round = c.requires.asked.0 in
     let old = c.requires.asked.1 in
     let x = c.requires.asked.2 in
-    ap numbers_of c.deref-6.ensures.value ∙ numbers c.args.ops.now round old now None x ∙ ap (present 0) (sym x.counts)
+    record { numbers = ap numbers_of c.deref-6.ensures.value ∙ numbers c.args.ops.now round old now None x ∙ ap (present 0) (sym x.counts) }
 
 pub returns : goal.returns
 returns c = λ round old x.
     let ops = c.args.ops.now in
     let now = c.args.run.now in
+    let tree = tree_of old.tree in
+    let new = c.change_all.new.tree in
     let fits = fit ops round old now x true (sym c.fit.ensures ∙ c.if-not-fit.false) in
-    let f = c.change_all.ensures in
-    let g = c.settle_all.ensures in
-    let h = c.dismiss.ensures in
-    ?
+    let held = now.actors.ok.0 in
+    let many = after_many ops round old now None x in
+    let here : vec_len now.actors ≡ processors old.tree = omega (arith, held, many) in
+    let changed = c.in_ok-change_all.ensures.tree ops
+    ∙ ap (λ (ys : List Actor). all_changes (actings_of ops ys) (tree_of now.tree) (actings_of ops ys) (tree_of now.tree)) c.deref-2.ensures.value in
+    let changed_old = changed ∙ ap (λ (t : Tree). all_changes (actings_of ops now.actors.items) (tree_of t) (actings_of ops now.actors.items) (tree_of t)) x.tree in
+    finishes ops round old now x _ fits
+    (record {
+      setting = refl;
+      store = refl;
+      pace = refl;
+      acting = refl;
+      processors_same = c.change_all.ensures.processors;
+      changed = changed;
+      given = c.in_ok-change_all.ensures.given;
+      forgotten = subst (λ (xs : List Acting). HaveForgotten xs now.actors.items now.arrived.items c.forget_all.new.arrived.items) c.deref-3.ensures.value
+          (subst (λ (ys : List Actor). HaveForgotten c.deref-3.result.now ys now.arrived.items c.forget_all.new.arrived.items) c.deref-4.ensures.value c.forget_all.ensures);
+      settled = c.in_ok-settle_all.ensures.settled tree (subst (λ (n : ℕ). IsSound n tree) (sym here) (sound ops round old now x)) (at_old ops round old now x c.deref-5.result.now c.deref-5.ensures.value)
+          (follow ops round old now x fits new changed_old);
+      counts = c.dismiss.ensures.counts;
+    })
