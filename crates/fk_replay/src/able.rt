@@ -11,7 +11,7 @@ ghost use Rattle.fk_replay.specs.Arrivals.{NoneArrived};
 
 use crate::run::Run;
 use fk_core::CoreOp;
-use fk_replay_arrivals::{arrive, tell};
+use fk_replay_arrivals::{tell, tell_first};
 
 impl Run {
     /// Tells who could act at first.
@@ -24,9 +24,7 @@ impl Run {
         ensures { HasTold ops.now 1 self.old self.new }
     {
         let (tree, actors) = (&self.tree, &self.actors);
-        for number in 0..self.setting.processors {
-            arrive(ops, tree, actors, number, 1, &mut self.pace, &mut self.arrived);
-        }
+        tell_first(ops, tree, actors, &mut self.pace, &mut self.arrived);
     }
 
     /// Tells who could act after a round, from the next one on.
