@@ -12,3 +12,4 @@ pub mod Traces
 pub mod Opening
 pub mod Passing
 pub mod Forgetting
+pub mod Telling

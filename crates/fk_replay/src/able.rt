@@ -1,6 +1,6 @@
 //! Who could act.
 
-ghost use Rattle.std.specs.Prelude.{◌≡◌, ◌^◌, ◌<◌, None, length, replicate};
+ghost use Rattle.std.specs.Prelude.{◌≡◌, None, replicate};
 ghost use Rattle.fk_tree.specs.View.{processors};
 ghost use Rattle.fk_meaning_state.specs.View.{setting_of};
 ghost use Rattle.fk_replay_phases.specs.Present.{numbers_of};
@@ -16,7 +16,6 @@ use fk_replay_arrivals::{tell, tell_first};
 impl Run {
     /// Tells who could act at first.
     pub(crate) fn begin(&mut self, ops: &[CoreOp])
-        requires few { length ops.now < 2 ^ 32 }
         requires run { IsRun self.old }
         requires steady { IsSteady ops.now (setting_of self.old.setting) (state_of self.old) }
         requires pace { self.old.pace ≡ replicate (processors self.old.tree) None }
@@ -29,7 +28,6 @@ impl Run {
 
     /// Tells who could act after a round, from the next one on.
     pub(crate) fn tell(&mut self, ops: &[CoreOp], next: u32)
-        requires few { length ops.now < 2 ^ 32 }
         requires run { IsRun self.old }
         requires steady { IsSteady ops.now (setting_of self.old.setting) (state_of self.old) }
         requires knows { KnowsAbout ops.now self.old (numbers_of self.old.acting.items) }
