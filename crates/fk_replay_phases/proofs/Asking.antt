@@ -53,6 +53,7 @@ module _ (core : List CoreOp) where
         ∙ ap (λ (b : Bool). if b then Passes s (acting_of core a) else Breaks due.site) room;
     store = refl;
     actor = refl;
+    mode = refl;
   }
 
   request_class : (class : Class) → class ≢ Local → class ≢ Tree → class ≡ Request
@@ -82,9 +83,10 @@ module _ (core : List CoreOp) where
   }
 
   pub ask_refused : (s after : Store) (a new : Actor) (due : Due) (kind : FaultKind) → a.taken ≡ Some due → class_of due.operation ≢ Tree → CanBeAsked core a
-      → serve (request due.operation (processor_of a.runner.processor)) s (processor_of a.runner.processor).number ≡ Faults kind → after ≡ s → acting_of core new ≡ acting_of core a → HasBroken core s after a new due.site
-  ask_refused s after a new due kind taken not_tree can faults store same = record {
+      → serve (request due.operation (processor_of a.runner.processor)) s (processor_of a.runner.processor).number ≡ Faults kind → after ≡ s → acting_of core new ≡ acting_of core a → new.mode ≡ a.mode → HasBroken core s after a new due.site
+  ask_refused s after a new due kind taken not_tree can faults store same mode = record {
     breaks = asked_phase s a due taken not_tree can ∙ ap (answered (step_at core (callers_of a.runner) due) (processor_of a.runner.processor)) faults;
     store = store;
     actor = same;
+    mode = mode;
   }

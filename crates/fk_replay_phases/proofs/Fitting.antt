@@ -71,6 +71,11 @@ module _ (round : Round) (last : ℕ) (joint : ℕ → Joint) (tree : Tree) (p :
           let fits = ((tell round last joint tree p there).back e).each x.number ahead.next.1.some in
           absurd (let bad : false ≡ true = sym misfit ∙ fits in cc)
 
+  -- whether a processor fits, told at its node
+  pub fits_at : (x : Acting) (b : Bool) → x ≡ acting_at tree x.number → b ≡ fits_by round last joint tree x.number x.node (mode_of (t.kind tree x.node))
+      → b ≡ fits_by round last joint tree x.number (tree.places x.number) (mode_of (t.kind tree (tree.places x.number)))
+  fits_at x b is tells = tells ∙ ap (λ (n : ℕ). fits_by round last joint tree x.number n (mode_of (t.kind tree n))) (ap (λ (y : Acting). y.node) is)
+
   -- what is known of the next one
   pub next_number : (i : ℕ) (x : Acting) → FitsAt i → i < length acting → x ≡ get_or acting i x → AreThere round last joint tree p → (x.number < p) × (x.number ≤ last)
   next_number i x at lt is there =
