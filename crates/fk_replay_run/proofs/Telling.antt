@@ -1,12 +1,12 @@
 -- Who could act before a round is told.
 use Rattle.std.proofs.Common.{◌≡◌, ℕ, zero, suc, ◌<◌, ◌≤◌, Bool, true, false, true≢false, ◌⊎◌, inl, inr, List, [], length, replicate, Option, Some, None, is_some, refl, sym, ap, ◌∙◌, subst, arith}
-use Rattle.std.specs.Prelude.{vec_len}
+use Rattle.std.specs.Prelude.{slice_index}
 use Rattle.std.proofs.Math.Path.{fun_ext}
 use Rattle.fk_tree.specs.Tree as t
 use Rattle.fk_tree.specs.Tree.{is_member, below}
 use Rattle.fk_tree.specs.Sound.{is_ascending}
 use Rattle.fk_tree.specs.View.{tree_of, processors}
-use Rattle.fk_tree.proofs.Lists.{below-has}
+use Rattle.fk_tree.proofs.Lists.{below-has, member_at}
 use Rattle.fk_meaning_operation.specs.declared.kinds.Joint.{Joint}
 use Rattle.fk_meaning_state.specs.View.{setting_of}
 use Rattle.fk_meaning.specs.Processor.{Setting}
@@ -20,7 +20,7 @@ use Rattle.fk_replay_able.specs.Known.{IsAnnounced, KnowsAble}
 use Rattle.fk_replay_able.proofs.Able.{who_could_act_is_able}
 use Rattle.fk_replay_able.proofs.Arrivals.{openings_know_able}
 use Rattle.fk_replay_steps.specs.Pace.{Absences, since}
-use Rattle.fk_replay_phases.specs.Actors.{runners_of}
+use Rattle.fk_replay_phases.specs.Present.{AreBelow}
 use Rattle.fk_replay_arrivals.specs.Arrived.{is_known, arrived_in, BecomesKnown, KnowsBehind, AreOf}
 use Rattle.fk_replay_run.specs.declared.run.Run.{Run}
 use Rattle.fk_replay_run.specs.Steady.{IsSteady}
@@ -46,6 +46,16 @@ module _ (core : List CoreOp) (old : Run) (steady : IsSteady core (setting_of ol
 
   are_of : AreOf (tree_of old.tree) old.actors.items (state_of old)
   are_of = record { tree_is = refl; runners_are = refl }
+
+  -- those who are still to come are processors
+  pub are_below : (numbers : List ℕ) → IsRun old → KnowsAbout core old numbers → AreBelow (processors old.tree) numbers
+  are_below numbers run knows = record {
+    each = λ i low.
+        let placed = knows.able.placed (slice_index numbers i) (member_at numbers i low) in
+        let lt = steady.stands.sound.within ((tree_of old.tree).places (slice_index numbers i)) (slice_index numbers i) placed in
+        let size = run.setting in
+        omega (arith, lt, size);
+  }
 
   -- what is known once those have come who were still to come
   pub has_told : (numbers : List ℕ) (round : ℕ) (new : Run) → KnowsAbout core old numbers → new ≡ record old { pace = new.pace; arrived = new.arrived } → BecomesKnown round old.pace new.pace
