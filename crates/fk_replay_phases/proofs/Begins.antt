@@ -123,8 +123,8 @@ module _ (core : List CoreOp) (setting : Setting) where
   pub begins_more : (round : Round) (acting : List Acting) (old now : List Actor) (i : ℕ) (x : Acting) (a new : Actor) (can : Bool) → BeginsAt round acting old i now → HaveNone old → length round ≡ length old
       → i < length acting → x ≡ get_or acting i x → slice_get now x.number ≡ Some a → HasBegun core setting (slice_index round x.number) a new can → can ≡ true
       → BeginsAt round acting old (i + 1) (set now x.number new)
-  begins_more round acting old now i x a new can at none many lt is here tells yes =
-      let has : HasBegun core setting (slice_index round x.number) a new true = subst (HasBegun core setting (slice_index round x.number) a new) yes tells in
+  begins_more round acting old now i x a new can at none many lt is here tells holds =
+      let has : HasBegun core setting (slice_index round x.number) a new true = subst (HasBegun core setting (slice_index round x.number) a new) holds tells in
       let ahead = next_acting round at.n acting i x at.ahead lt is in
       record {
         n = suc x.number;

@@ -8,3 +8,4 @@ pub mod Fitting
 pub mod Emptied
 pub mod Highest
 pub mod Few
+pub mod Joining
