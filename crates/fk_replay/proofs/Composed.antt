@@ -34,6 +34,7 @@ use Rattle.fk_replay_phases.specs.declared.actor.Actor.{Actor}
 use Rattle.fk_replay_phases.specs.Actors.{acting_of, actings_of, due_of, runners_of, fault_of, HaveBegun, HaveAsked}
 use Rattle.fk_replay_phases.specs.Joints.{joint_at, joint_by, joint_next}
 use Rattle.fk_replay.specs.Steady.{IsSteady}
+use Rattle.fk_replay.specs.Asked.{AreServed}
 
 and_true : (a b : Bool) → a && b ≡ true → (a ≡ true) × (b ≡ true)
 and_true true b e = (refl, e)
@@ -51,35 +52,29 @@ acting_joint core (a ∷ actors) zero = refl
 acting_joint core (a ∷ actors) (suc h) = acting_joint core actors h
 
 module _ (core : List CoreOp) (set : Setting) (round : Round) (s : State Position) where
-  -- what is known once the requests have been done
-  pub record Asked (after : List Actor) (store : Store) (fault : Option code.Fault) : Type 0 where
-    pub may : all_may_act (next core) set round s.runners ≡ true
-    pub phase : all_requests 0 (asking (next core) set round s.runners) s.store
-        ≡ record { store = store; acting = actings_of core after; fault = option_map (fault_of core) fault }
-
   pub asked_of : (before mid after : List Actor) (store : Store) (fault : Option code.Fault) → s.runners ≡ runners_of before → HaveBegun core set round before mid true → HaveAsked core s.store store mid after fault
-      → Asked after store fault
+      → AreServed core set round s after store fault
   asked_of before mid after store fault same begun asks = record {
     may = ap (all_may_act (next core) set round) same ∙ sym begun.whether;
     phase = ap (λ rs. all_requests 0 (asking (next core) set round rs) s.store) same ∙ ap (λ xs. all_requests 0 xs s.store) (sym (begun.begun refl)) ∙ asks.phase;
   }
 
   -- the result of the round
-  pub result_is : (after : List Actor) (store : Store) (fault : Option code.Fault) → Asked after store fault
+  pub result_is : (after : List Actor) (store : Store) (fault : Option code.Fault) → AreServed core set round s after store fault
       → result (next core) set round s ≡ tree_phase s.tree store (actings_of core after) (option_map (fault_of core) fault)
   result_is after store fault asks = ap (λ r. tree_phase s.tree r.store r.acting r.fault) asks.phase
 
-  pub stepping_is : (after : List Actor) (store : Store) (fault : Option code.Fault) → Asked after store fault → stepping (next core) set round s ≡ actings_of core after
+  pub stepping_is : (after : List Actor) (store : Store) (fault : Option code.Fault) → AreServed core set round s after store fault → stepping (next core) set round s ≡ actings_of core after
   stepping_is after store fault asks = ap (λ r. r.acting) asks.phase
 
   -- the joint operations that processors have taken
-  taken_joint : (after : List Actor) (store : Store) (fault : Option code.Fault) → Asked after store fault → (h : ℕ) → joint_by core false (slice_get after h) ≡ rounds.joint_at (begin_all (next core) set round s.runners) h
+  pub taken_joint : (after : List Actor) (store : Store) (fault : Option code.Fault) → AreServed core set round s after store fault → (h : ℕ) → joint_by core false (slice_get after h) ≡ rounds.joint_at (begin_all (next core) set round s.runners) h
   taken_joint after store fault asks h =
       sym (acting_joint core after h) ∙ ap (λ xs. rounds.joint_at xs h) (sym (stepping_is after store fault asks))
       ∙ request_joints 0 (asking (next core) set round s.runners) s.store h ∙ asking_joints (next core) set round s.runners h
 
   -- a processor that isn't in the round stands as before
-  absent_joint : (after : List Actor) (store : Store) (fault : Option code.Fault) → Asked after store fault → length round ≡ length s.runners → (h : ℕ) → slice_index round h ≡ 0
+  absent_joint : (after : List Actor) (store : Store) (fault : Option code.Fault) → AreServed core set round s after store fault → length round ≡ length s.runners → (h : ℕ) → slice_index round h ≡ 0
       → joint_by core true (slice_get after h) ≡ stops.joint_next (next core) set (slice_get s.runners h)
   absent_joint after store fault asks many h none = by_runner (slice_get s.runners h) refl
     where
@@ -122,7 +117,7 @@ module _ (core : List CoreOp) (set : Setting) (round : Round) (s : State Positio
           past_stepping : slice_get (stepping (next core) set round s) h ≡ None
           past_stepping = none_requests 0 (asking (next core) set round s.runners) s.store h (none_asking round s.runners h e)
 
-  pub joints_up_to : (after : List Actor) (store : Store) (fault : Option code.Fault) → Asked after store fault → length round ≡ length s.runners → (last : ℕ) → ((h : ℕ) → last < h → slice_index round h ≡ 0)
+  pub joints_up_to : (after : List Actor) (store : Store) (fault : Option code.Fault) → AreServed core set round s after store fault → length round ≡ length s.runners → (last : ℕ) → ((h : ℕ) → last < h → slice_index round h ≡ 0)
       → joint_at core after last ≡ joint_up_to (next core) set round s.runners last
   joints_up_to after store fault asks many last none = fun_ext (λ h. by_above h (nat_lt last h) refl)
     where
@@ -173,7 +168,7 @@ module _ (core : List CoreOp) (set : Setting) (round : Round) (s : State Positio
           let bad : false ≡ true = sym (ap (λ op. rounds.is_local (class_of op)) (only step e)) ∙ sym (ap (is_local_next (next core) set) e) ∙ first_local in
           cc
 
-  pub waits : (steady : IsSteady core set s) (after : List Actor) (store : Store) (fault : Option code.Fault) → Asked after store fault → (last h first parts : ℕ) → 0 < slice_index round h → h ≤ last
+  pub waits : (steady : IsSteady core set s) (after : List Actor) (store : Store) (fault : Option code.Fault) → AreServed core set round s after store fault → (last h first parts : ℕ) → 0 < slice_index round h → h ≤ last
       → t.kind s.tree (s.tree.places h) ≡ Some (Waiting first parts) → joint_at core after last h ≡ Resuming
   waits steady after store fault asks last h first parts some low kind =
       let found = may_one round s.runners h asks.may some in
@@ -227,7 +222,7 @@ module _ (core : List CoreOp) (set : Setting) (round : Round) (s : State Positio
           ∙ sym (alone_there round s.runners h (omega arith))
 
   -- the test of the code, for a whole round
-  pub fits_whole : (after : List Actor) (store : Store) (fault : Option code.Fault) → Asked after store fault → length round ≡ length s.runners → (p last : ℕ) → IsSound p s.tree → length s.runners ≡ p → p ≤ suc last
+  pub fits_whole : (after : List Actor) (store : Store) (fault : Option code.Fault) → AreServed core set round s after store fault → length round ≡ length s.runners → (p last : ℕ) → IsSound p s.tree → length s.runners ≡ p → p ≤ suc last
       → all_fit_below round last (joint_at core after last) s.tree 0 round ≡ all_fit round (rounds.joint_at (begin_all (next core) set round s.runners)) s.tree 0 round
   fits_whole after store fault asks many p last sound all few =
       ap (λ j. all_fit_below round last j s.tree 0 round) (joints_up_to after store fault asks many last (λ h lt. out_of round h (omega arith)) ∙ up_to_all last (omega arith))

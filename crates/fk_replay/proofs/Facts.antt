@@ -31,7 +31,8 @@ use Rattle.fk_replay_phases.specs.Actors.{acting_of, actings_of, runners_of, due
 use Rattle.fk_replay_phases.specs.Joints.{joint_at}
 use Rattle.fk_replay.specs.Ranges.{AreRanges}
 use Rattle.fk_replay.specs.Steady.{IsSteady}
-use Rattle.fk_replay.proofs.Composed.{Asked, stepping_is, waits}
+use Rattle.fk_replay.specs.Asked.{AreServed}
+use Rattle.fk_replay.proofs.Composed.{stepping_is, waits}
 
 -- ---- counts
 
@@ -127,7 +128,7 @@ module _ (core : List CoreOp) (setting : Setting) (round : Round) (s : State Pos
   }
 
   pub in_round_after : (acting : List acts.Acting) (after : List Actor) (store : Store) (fault : Option code.Fault) → numbers_of acting ≡ present 0 round → length round ≡ length s.runners → length after ≡ length s.runners
-      → Asked core setting round s after store fault → AreInRound acting after
+      → AreServed core setting round s after store fault → AreInRound acting after
   in_round_after acting after store fault numbers many all asks = record {
     round = round;
     many = many ∙ sym all;
@@ -143,12 +144,12 @@ module _ (core : List CoreOp) (setting : Setting) (round : Round) (s : State Pos
   own_mid mid own begun =
       subst AreOwn (ap (map rounds.runner_of) (sym begun) ∙ runners_are core mid) (keep (next core) setting round s own).before_requests
 
-  pub own_after : (after : List Actor) (store : Store) (fault : Option code.Fault) → AreOwn s.runners → Asked core setting round s after store fault → AreOwn (runners_of after)
+  pub own_after : (after : List Actor) (store : Store) (fault : Option code.Fault) → AreOwn s.runners → AreServed core setting round s after store fault → AreOwn (runners_of after)
   own_after after store fault own asks =
       subst AreOwn (ap (map rounds.runner_of) (stepping_is core setting round s after store fault asks) ∙ runners_are core after) (keep (next core) setting round s own).before_steps
 
   -- who fits is told for these
-  pub are_there : (after : List Actor) (store : Store) (fault : Option code.Fault) (last : ℕ) → IsSteady core setting s → Asked core setting round s after store fault → length round ≡ setting.processors
+  pub are_there : (after : List Actor) (store : Store) (fault : Option code.Fault) (last : ℕ) → IsSteady core setting s → AreServed core setting round s after store fault → length round ≡ setting.processors
       → ((h : ℕ) → 0 < slice_index round h → h ≤ last) → AreThere round last (joint_at core after last) s.tree setting.processors
   are_there after store fault last steady asks many low = record {
     sound = steady.stands.sound;

@@ -199,7 +199,7 @@ module _ (core : List CoreOp) (set : Setting) (schedule : Schedule) (first : Sta
     going = ap (λ (s : State Position). s.fault) (sym done.state)
 
     many : set.processors ≡ length (behind n).runners
-    many = let there = steady n done.passed going in sym there.stands.tree.many
+    many = let there = steady n done.passed.possible going in sym there.stands.tree.many
 
     harts_are : processors run.tree ≡ set.processors
     harts_are = sym done.run.setting ∙ ap (λ (σ : Setting). σ.processors) done.setting

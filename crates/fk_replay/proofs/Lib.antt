@@ -11,3 +11,4 @@ pub mod Timely
 pub mod Traces
 pub mod Opening
 pub mod Passing
+pub mod Forgetting

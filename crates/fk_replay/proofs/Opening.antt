@@ -17,8 +17,9 @@ use Rattle.fk_replay_phases.specs.Modes.{HaveModes}
 use Rattle.fk_replay_phases.specs.declared.actor.Actor.{Actor}
 use Rattle.fk_meaning_operation.specs.declared.kinds.Joint.{Joint}
 use Rattle.fk_meaning_operation.specs.declared.kinds.Joint.TheVariants.{Alone, Starting, AtBarrier, Closing, Resuming}
-use Rattle.fk_replay.specs.declared.run.Arrived.{Arrived}
-use Rattle.fk_replay.specs.Arrivals.{arrived_in, arrived_at, NoneArrived}
+use Rattle.fk_replay_arrivals.specs.declared.arrived.Arrived.{Arrived}
+use Rattle.fk_replay_arrivals.specs.Arrived.{number_for, arrived_in}
+use Rattle.fk_replay.specs.Arrivals.{NoneArrived}
 use Rattle.fk_tree.specs.View.{tree_of, processors}
 use Rattle.fk_meaning_store.specs.Store.{Store, opening_store}
 use Rattle.fk_meaning_store.specs.View.{store_of, processors_of}
@@ -98,23 +99,26 @@ module _ (set : Setting) (main : ℕ) (firsts : List ℕ) where
       by h b (inl e) = x.each h b e
       by h b (inr e) = subst (λ (g : ℕ). IsFirst set main firsts g b) (sym (e.0 ∙ x.many)) (subst (IsFirst set main firsts count) e.1 y)
 
-pub none_more : (items : List Arrived) (a : Arrived) → NoneArrived items → a.starting ≡ 0 → a.at_barrier ≡ 0 → a.closing ≡ 0 → NoneArrived (items ++ a ∷ [])
-none_more items a none s b c h joint = by (slice_get (items ++ a ∷ []) h) refl
+pub none_more : (count : ℕ) (items : List Arrived) (a : Arrived) → NoneArrived count items → a.starting ≡ 0 → a.at_barrier ≡ 0 → a.closing ≡ 0 → NoneArrived (count + 1) (items ++ a ∷ [])
+none_more count items a before s b c = record {
+  many = length_more items a ∙ ap (λ (n : ℕ). n + 1) before.many;
+  none = λ h joint. by h joint (slice_get (items ++ a ∷ []) h) refl;
+}
   where
-    zeros : (joint : Joint) → arrived_in (Some a) joint ≡ 0
+    zeros : (joint : Joint) → number_for joint (Some a) ≡ 0
     zeros Starting = s
     zeros AtBarrier = b
     zeros Closing = c
     zeros Alone = refl
     zeros Resuming = refl
 
-    there : (x : Arrived) → (slice_get items h ≡ Some x) ⊎ ((h ≡ length items) × (a ≡ x)) → arrived_in (Some x) joint ≡ 0
-    there x (inl e) = ap (λ (o : Option Arrived). arrived_in o joint) (sym e) ∙ none h joint
-    there x (inr e) = ap (λ (y : Arrived). arrived_in (Some y) joint) (sym e.1) ∙ zeros joint
+    there : (h : ℕ) (joint : Joint) (x : Arrived) → (slice_get items h ≡ Some x) ⊎ ((h ≡ length items) × (a ≡ x)) → number_for joint (Some x) ≡ 0
+    there h joint x (inl e) = ap (number_for joint) (sym e) ∙ before.none h joint
+    there h joint x (inr e) = ap (λ (y : Arrived). number_for joint (Some y)) (sym e.1) ∙ zeros joint
 
-    by : (o : Option Arrived) → slice_get (items ++ a ∷ []) h ≡ o → arrived_at (items ++ a ∷ []) h joint ≡ 0
-    by None e = ap (λ (o : Option Arrived). arrived_in o joint) e
-    by (Some x) e = ap (λ (o : Option Arrived). arrived_in o joint) e ∙ there x (get_more items a x h e)
+    by : (h : ℕ) (joint : Joint) (o : Option Arrived) → slice_get (items ++ a ∷ []) h ≡ o → arrived_in (items ++ a ∷ []) h joint ≡ 0
+    by h joint None e = ap (number_for joint) e
+    by h joint (Some x) e = ap (number_for joint) e ∙ there h joint x (get_more items a x h e)
 
 -- ---- the whole run
 
@@ -129,7 +133,7 @@ module _ (main : ℕ) (words firsts input : List ℕ) (p : ℕ) (r : Run) where
       (first_runners set main firsts p r.actors.items first)
 
   pub is_opening : p ≤ 1024 → store_of r.store ≡ opening_store words input → processors_of r.store ≡ p → tree_of r.tree ≡ t.root p → processors r.tree ≡ p
-      → setting_of r.setting ≡ set → AreFirst set main firsts p r.actors.items → vec_len r.actors ≡ p → AreNone p r.counts.items → r.pace ≡ replicate p None → NoneArrived r.arrived.items
+      → setting_of r.setting ≡ set → AreFirst set main firsts p r.actors.items → vec_len r.actors ≡ p → AreNone p r.counts.items → r.pace ≡ replicate p None → NoneArrived p r.arrived.items
       → IsOpening main words firsts input p r
   is_opening few store stored tree treed setting first many counts pace arrived = record {
     run = record {

@@ -16,7 +16,7 @@ use Rattle.fk_replay_text.specs.declared.fault.ReplayFault.TheVariants.{BadTrace
 use Rattle.fk_replay_counts.specs.Steady.{IsSteadyInTree}
 use Rattle.fk_replay_counts.proofs.Steady.{runs_are_steady}
 use Rattle.fk_replay_schedules.specs.Answers.{after}
-use Rattle.fk_replay_schedules.specs.Paced.{ArePassed, Begins}
+use Rattle.fk_replay_schedules.specs.Paced.{Begins}
 use Rattle.fk_replay_schedules.proofs.Paced.{paced_at_first, passed_at_first}
 use Rattle.fk_replay_steps.specs.Pace.{Absences, since}
 use Rattle.fk_replay_schedules.proofs.Prefixes.{first_possible}
@@ -53,8 +53,8 @@ module _ (core : List CoreOp) (main : ℕ) (words firsts input : List ℕ) (p : 
 
   -- each state behind possible rounds is steady
   pub are_steady : (schedule : Schedule) → 1 ≤ p → length words + length input ≤ 2 ^ 19 → IsOrderly core main → IsSafe core main words firsts input p → AreSteady core set schedule first
-  are_steady schedule some few orderly safe n passed running =
-      let possible : ArePossible (next core) set (take n schedule) first = first_possible (next core) set schedule first n passed.possible in
+  are_steady schedule some few orderly safe n are_possible running =
+      let possible : ArePossible (next core) set (take n schedule) first = first_possible (next core) set schedule first n are_possible in
       let steady : IsSteadyInTree (next core) (λ (w : Position). landing core w.at) set (after (next core) set schedule first n) =
       runs_are_steady Position ℕ (next core) (λ (w : Position). landing core w.at) (position main []) orderly p words firsts input (take n schedule) some
       (words_are_space (length words) (length input) p few) possible running in

@@ -24,8 +24,9 @@ use Rattle.fk_replay_phases.specs.Modes.{HaveModes}
 use Rattle.fk_replay_trees.specs.Settled.{HaveSettled}
 use Rattle.fk_replay.specs.declared.run.Run.{Run}
 use Rattle.fk_replay.specs.Steady.{IsSteady}
+use Rattle.fk_replay.specs.Asked.{AreServed}
 use Rattle.fk_replay.specs.Taken.{state_of, IsRun, set_in, IsDone, IsStoppedBy, IsNeither}
-use Rattle.fk_replay.proofs.Composed.{Asked, result_is, together, joints_up_to, is_it_possible, not_begun, not_fitting, not_stopping}
+use Rattle.fk_replay.proofs.Composed.{result_is, together, joints_up_to, is_it_possible, not_begun, not_fitting, not_stopping}
 
 abbrev made : Store → Tree → List (Runner Position) → State Position
 made st tree rs = record { store = st; tree = tree; runners = rs; fault = None }
@@ -47,7 +48,7 @@ module _ (core : List CoreOp) (round : Round) (old : Run) where
     pub given : (tree_of new.tree).given ≤ (tree_of old.tree).given + 2 ^ 28
 
   pub is_done : (new : Run) (after : List Actor) → IsRun old → IsSteady core (setting_of old.setting) (state_of old)
-      → Asked core (setting_of old.setting) round (state_of old) after (store_of new.store) None
+      → AreServed core (setting_of old.setting) round (state_of old) after (store_of new.store) None
       → all_fit round (rounds.joint_at (begin_all (next core) (setting_of old.setting) round (runners_of old.actors.items))) (tree_of old.tree) 0 round ≡ true
       → tree_of new.tree ≡ all_changes (actings_of core after) (tree_of old.tree) (actings_of core after) (tree_of old.tree)
       → HaveSettled core (tree_of old.tree) (tree_of new.tree) after new.actors.items → Sizes new → IsDone core round old new
@@ -80,12 +81,12 @@ module _ (core : List CoreOp) (round : Round) (old : Run) where
           (settles.runners ∙ ap (λ (n : Tree). settled (actings_of core after) (tree_of old.tree) n (actings_of core after)) changed) ∙ sym is
 
   -- the fault of the round
-  fault_is : (after : List Actor) (store : Store) (fault : code.Fault) → Asked core (setting_of old.setting) round (state_of old) after store (Some fault)
+  fault_is : (after : List Actor) (store : Store) (fault : code.Fault) → AreServed core (setting_of old.setting) round (state_of old) after store (Some fault)
       → (result (next core) (setting_of old.setting) round (state_of old)).fault ≡ Some (fault_of core fault)
   fault_is after store fault asks = ap (λ (x : State Position). x.fault) (result_is core (setting_of old.setting) round (state_of old) after store (Some fault) asks)
 
   pub is_stopped : (new : Run) (after : List Actor) (fault : code.Fault) → IsSteady core (setting_of old.setting) (state_of old) → length round ≡ length (runners_of old.actors.items)
-      → Asked core (setting_of old.setting) round (state_of old) after (store_of new.store) (Some fault) → ((h : ℕ) → fault.processor < h → slice_index round h ≡ 0)
+      → AreServed core (setting_of old.setting) round (state_of old) after (store_of new.store) (Some fault) → ((h : ℕ) → fault.processor < h → slice_index round h ≡ 0)
       → all_fit_below round fault.processor (joint_at core after fault.processor) (tree_of old.tree) 0 round ≡ true
       → StopsTell (next core) (setting_of old.setting) round (state_of old) → new.pace ≡ old.pace → numbers_of new.acting.items ≡ present 0 round → IsStoppedBy core round old new fault
   is_stopped new after fault steady many asks last fits tells pace numbers = record {
@@ -106,14 +107,14 @@ module _ (core : List CoreOp) (round : Round) (old : Run) where
       let both = not_begun core (setting_of old.setting) round (state_of old) cannot in
       record { impossible = both.0; going_on = both.1 tells }
 
-  pub is_neither_fitting : (new : Run) (after : List Actor) (store : Store) → Asked core (setting_of old.setting) round (state_of old) after store None
+  pub is_neither_fitting : (new : Run) (after : List Actor) (store : Store) → AreServed core (setting_of old.setting) round (state_of old) after store None
       → all_fit round (rounds.joint_at (begin_all (next core) (setting_of old.setting) round (runners_of old.actors.items))) (tree_of old.tree) 0 round ≡ false
       → StopsTell (next core) (setting_of old.setting) round (state_of old) → IsNeither core round old new
   is_neither_fitting new after store asks misfit tells =
       let both = not_fitting core (setting_of old.setting) round (state_of old) misfit (ap (λ (x : State Position). x.fault) (result_is core (setting_of old.setting) round (state_of old) after store None asks)) in
       record { impossible = both.0; going_on = both.1 tells }
 
-  pub is_neither_stopping : (new : Run) (after : List Actor) (store : Store) (fault : code.Fault) → length round ≡ length (runners_of old.actors.items) → Asked core (setting_of old.setting) round (state_of old) after store (Some fault)
+  pub is_neither_stopping : (new : Run) (after : List Actor) (store : Store) (fault : code.Fault) → length round ≡ length (runners_of old.actors.items) → AreServed core (setting_of old.setting) round (state_of old) after store (Some fault)
       → (((h : ℕ) → fault.processor < h → slice_index round h ≡ 0) → all_fit_below round fault.processor (joint_at core after fault.processor) (tree_of old.tree) 0 round ≡ true → ⊥)
       → StopsTell (next core) (setting_of old.setting) round (state_of old) → IsNeither core round old new
   is_neither_stopping new after store fault many asks neither tells =

@@ -141,7 +141,7 @@ module _ (core : List CoreOp) (set : Setting) (first : State Position) (harts cy
     module _ (before : HasDone core set schedule first (m.cycle - 1) run) where
       pub is_steady : IsSteady core (setting_of run.setting) (state_of run)
       is_steady =
-          let there = steady (m.cycle - 1) before.passed (ap (λ (s : State Position). s.fault) (sym before.state)) in
+          let there = steady (m.cycle - 1) before.passed.possible (ap (λ (s : State Position). s.fault) (sym before.state)) in
           subst (λ (σ : Setting). IsSteady core σ (state_of run)) (sym before.setting) (subst (λ (s : State Position). IsSteady core set s) (sym before.state) there)
 
       pub has_numbers : cycles < 2 ^ 32 → (tree_of run.tree).given + 2 ^ 28 ≤ 2 ^ 63

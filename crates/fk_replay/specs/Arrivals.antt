@@ -1,18 +1,10 @@
--- How many processors have come to a joint operation, as a run in memory counts them.
-use Rattle.std.specs.Prelude.{◌≡◌, ℕ, List, Option, Some, slice_get}
+-- A run in memory before which nobody has come to a joint operation.
+use Rattle.std.specs.Prelude.{◌≡◌, ℕ, List, length}
 use Rattle.fk_meaning_operation.specs.declared.kinds.Joint.{Joint}
-use Rattle.fk_meaning_operation.specs.declared.kinds.Joint.TheVariants.{Starting, AtBarrier, Closing}
-use Rattle.fk_replay.specs.declared.run.Arrived.{Arrived}
-
-abbrev pub arrived_in : Option Arrived → Joint → ℕ
-arrived_in (Some arrived) Starting = arrived.starting
-arrived_in (Some arrived) AtBarrier = arrived.at_barrier
-arrived_in (Some arrived) Closing = arrived.closing
-arrived_in arrived joint = 0
-
-abbrev pub arrived_at : List Arrived → (processor : ℕ) → Joint → ℕ
-arrived_at items h joint = arrived_in (slice_get items h) joint
+use Rattle.fk_replay_arrivals.specs.declared.arrived.Arrived.{Arrived}
+use Rattle.fk_replay_arrivals.specs.Arrived.{arrived_in}
 
 -- nobody has come to a joint operation
-abbrev pub NoneArrived : List Arrived → Type 0
-NoneArrived items = (h : ℕ) (joint : Joint) → arrived_at items h joint ≡ 0
+pub record NoneArrived (processors : ℕ) (items : List Arrived) : Type 0 where
+  pub many : length items ≡ processors
+  pub none : (h : ℕ) (joint : Joint) → arrived_in items h joint ≡ 0

@@ -1,6 +1,7 @@
 pub mod Ranges
 pub mod Steady
 pub mod Taken
+pub mod Asked
 pub mod Arrivals
 pub mod Passed
 pub mod Followed

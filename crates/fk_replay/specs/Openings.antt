@@ -33,4 +33,4 @@ pub record IsOpening (main : ℕ) (words firsts input : List ℕ) (p : ℕ) (r :
   pub state : state_of r ≡ list_opening main words firsts input p
   pub given : (tree_of r.tree).given ≤ 1
   pub pace : r.pace ≡ replicate p None
-  pub arrived : NoneArrived r.arrived.items
+  pub arrived : NoneArrived p r.arrived.items

@@ -1,8 +1,9 @@
 -- What becomes of a run and its pace in one round of a trace, and in rounds without acts.
 use Rattle.std.specs.Prelude.{◌≡◌, ℕ, suc, ◌<◌, ◌≤◌, Bool, true, false, ◌⊎◌, List, [], Option}
-use Rattle.std.specs.Prelude.{Some, None, is_some}
+use Rattle.std.specs.Prelude.{Some, None, length}
+use Rattle.fk_tree.specs.View.{processors}
 use Rattle.fk_meaning_state.specs.View.{setting_of}
-use Rattle.fk_meaning.specs.Round.{Round, is_possible, IsStopped}
+use Rattle.fk_meaning.specs.Round.{Round, is_possible, result, IsStopped}
 use Rattle.fk_core.specs.declared.op.CoreOp.{CoreOp}
 use Rattle.fk_core.specs.Next.{Position, next}
 use Rattle.fk_replay_text.specs.declared.fault.ReplayFault.{ReplayFault}
@@ -12,8 +13,9 @@ use Rattle.fk_replay_schedules.specs.Paced.{Leaves, Begins}
 use Rattle.fk_replay_able.specs.Known.{KnowsAble}
 use Rattle.fk_replay_steps.specs.Pace.{Absences, IsLeastLate, since}
 use Rattle.fk_replay_phases.specs.declared.phases.Fault.{Fault}
+use Rattle.fk_replay_arrivals.specs.Arrived.{arrived_in, is_known}
 use Rattle.fk_replay.specs.declared.run.Run.{Run}
-use Rattle.fk_replay.specs.Arrivals.{arrived_at}
+use Rattle.fk_replay.specs.Steady.{IsSteady}
 use Rattle.fk_replay.specs.Taken.{IsDone, IsStoppedBy, state_of}
 
 -- ---- late rounds
@@ -45,14 +47,13 @@ TellsFirstLate absences behind last Memory = ⊥
 
 -- ---- who could act
 
-abbrev pub is_able : Absences → (processor : ℕ) → Bool
-is_able absences h = is_some (since absences h)
-
 module _ (core : List CoreOp) where
   -- it is known who could act, but for what is changed by those who are still to come
-  abbrev pub KnowsAbout : Run → (coming : List ℕ) → Type 0
-  KnowsAbout run coming =
-      KnowsAble (next core) (state_of run) coming (is_able run.pace) (arrived_at run.arrived.items)
+  pub record KnowsAbout (run : Run) (coming : List ℕ) : Type 0 where
+    pub pace : length run.pace ≡ processors run.tree
+    pub arrived : length run.arrived.items ≡ processors run.tree
+    pub able : KnowsAble (next core) (state_of run) coming (is_known run.pace)
+        (arrived_in run.arrived.items)
 
   -- all those who could act before a round are told
   pub record HasTold (round : ℕ) (old new : Run) : Type 0 where
@@ -62,6 +63,13 @@ module _ (core : List CoreOp) where
     pub knows : KnowsAbout new []
 
 -- ---- one round
+
+-- if the round is possible, the state behind it is steady
+abbrev pub IsSteadyBehind : List CoreOp → Round → Run → Type 0
+IsSteadyBehind core round old =
+    is_possible (next core) (setting_of old.setting) round (state_of old) ≡ true
+    → IsSteady core (setting_of old.setting)
+    (result (next core) (setting_of old.setting) round (state_of old))
 
 module _ (core : List CoreOp) (round : Round) (number : ℕ) (is_last : Bool) (old : Run) where
   -- the round was done

@@ -1,10 +1,11 @@
 -- A run in memory, and what a round makes of it.
-use Rattle.std.specs.Prelude.{◌≡◌, ℕ, ◌+◌, ◌≤◌, ◌^◌, ◌==◌, Bool, true, false, List, [], ◌∷◌, Some, None, vec_len}
+use Rattle.std.specs.Prelude.{◌≡◌, ℕ, ◌+◌, ◌≤◌, ◌^◌, ◌==◌, Bool, true, false, List, [], ◌∷◌, Some, None, length, vec_len}
 use Rattle.fk_tree.specs.View.{tree_of, processors}
 use Rattle.fk_meaning_store.specs.View.{store_of, processors_of}
 use Rattle.fk_meaning_state.specs.View.{setting_of}
 use Rattle.fk_meaning.specs.Processor.{Setting}
 use Rattle.fk_meaning.specs.Round.{State, Round, result, is_possible, IsStopped}
+use Rattle.fk_meaning_operation.specs.declared.kinds.Joint.{Joint}
 use Rattle.fk_core.specs.declared.op.CoreOp.{CoreOp}
 use Rattle.fk_core.specs.Next.{Position, next}
 use Rattle.fk_replay_rounds.specs.Own.{AreOwn}
@@ -12,6 +13,8 @@ use Rattle.fk_replay_phases.specs.Present.{AreNone, present, numbers_of}
 use Rattle.fk_replay_phases.specs.Actors.{HaveNone, runners_of, fault_of}
 use Rattle.fk_replay_phases.specs.Modes.{HaveModes}
 use Rattle.fk_replay_phases.specs.declared.phases.Fault.{Fault}
+use Rattle.fk_replay_able.specs.Known.{DoesLowest}
+use Rattle.fk_replay_arrivals.specs.Arrived.{arrived_in}
 use Rattle.fk_replay.specs.declared.run.Run.{Run}
 use Rattle.fk_replay.specs.declared.rounds.Outcome.{Outcome}
 use Rattle.fk_replay.specs.declared.rounds.Outcome.TheVariants.{Possible, Stopped, NotPossible}
@@ -40,6 +43,15 @@ module _ (core : List CoreOp) (round : Round) (old new : Run) where
   abbrev pub set_in : Setting
   set_in = setting_of old.setting
 
+  -- nobody has come any longer to the joint operations that are done in the round
+  pub record HasForgotten : Type 0 where
+    pub many : length new.arrived.items ≡ length old.arrived.items
+    pub done : (h : ℕ) (joint : Joint) → DoesLowest (next core) set_in round (state_of old) h joint
+        → arrived_in new.arrived.items h joint ≡ 0
+    pub kept : (h : ℕ) (joint : Joint)
+        → (DoesLowest (next core) set_in round (state_of old) h joint → ⊥)
+        → arrived_in new.arrived.items h joint ≡ arrived_in old.arrived.items h joint
+
   -- the round is possible, and was done
   pub record IsDone : Type 0 where
     pub possible : is_possible (next core) set_in round (state_of old) ≡ true
@@ -48,6 +60,7 @@ module _ (core : List CoreOp) (round : Round) (old new : Run) where
     pub same : new.setting ≡ old.setting
     pub tree : processors new.tree ≡ processors old.tree
     pub pace : new.pace ≡ old.pace
+    pub arrived : HasForgotten
     pub numbers : numbers_of new.acting.items ≡ present 0 round
     pub given : (tree_of new.tree).given ≤ (tree_of old.tree).given + 2 ^ 28
 

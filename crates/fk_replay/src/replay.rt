@@ -15,7 +15,7 @@ ghost use Rattle.fk_replay.specs.Ranges.{AreRanges};
 ghost use Rattle.fk_replay.specs.Steady.{IsSteady};
 ghost use Rattle.fk_replay.specs.Taken.{IsRun, state_of};
 ghost use Rattle.fk_replay.specs.Passed.{TellsLate, AreOnTime, TellsFirstLate, KnowsAbout};
-ghost use Rattle.fk_replay.specs.Passed.{HasPassed, IsRefused};
+ghost use Rattle.fk_replay.specs.Passed.{HasPassed, IsRefused, IsSteadyBehind};
 ghost use Rattle.fk_replay.specs.Followed.{AreSteady, HasDone, HasFollowed, IsUnlawful};
 ghost use Rattle.fk_replay.specs.Replay.{IsOfText, IsOrderly, IsSafe, IsAnswer, schedule_in};
 
@@ -55,7 +55,8 @@ fn pass_empty(pace: &Pace, behind: u32, last: u32) -> Result<(), ReplayFault>
 
 /// Those who are in a round are no longer absent.
 fn leave(acting: &[Acting], pace: &mut Pace)
-    ensures { (round : Round) → numbers_of acting.now ≡ present 0 round
+    ensures many { length pace.new ≡ length pace.old }
+    ensures leaves { (round : Round) → numbers_of acting.now ≡ present 0 round
         → Leaves round (since pace.old) (since pace.new) }
 {
     for member in acting {
@@ -75,6 +76,8 @@ fn pass_round(
     requires run { IsRun run.old }
     requires ranges { AreRanges (processors run.old.tree) (map range_of acts.now) }
     requires steady { IsSteady ops.now (setting_of run.old.setting) (state_of run.old) }
+    requires behind { IsSteadyBehind ops.now
+        (round_of (processors run.old.tree) (map range_of acts.now)) run.old }
     requires given { (tree_of run.old.tree).given + 2 ^ 28 ≤ 2 ^ 63 }
     requires knows { KnowsAbout ops.now run.old [] }
     requires round { is_last ≡ false → round + 1 < 2 ^ 32 }

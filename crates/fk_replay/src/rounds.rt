@@ -1,9 +1,10 @@
 //! Rounds.
 
-ghost use Rattle.std.specs.Prelude.{◌≡◌, ◌+◌, ◌^◌, ◌<◌, ◌≤◌, map, length, vec_len};
+ghost use Rattle.std.specs.Prelude.{◌≡◌, ◌+◌, ◌^◌, ◌<◌, ◌≤◌, map, length, Some, None};
 ghost use Rattle.std.specs.Prelude.{IfOk};
 ghost use Rattle.fk_tree.specs.View.{tree_of, processors};
 ghost use Rattle.fk_meaning_state.specs.View.{setting_of};
+ghost use Rattle.fk_meaning.specs.Round.{Round};
 ghost use Rattle.fk_replay_text.specs.View.{range_of};
 ghost use Rattle.fk_replay_text.specs.Rounds.{round_of};
 ghost use Rattle.fk_replay_rounds.specs.Fits.{all_fit_below, AreThere};
@@ -13,11 +14,12 @@ ghost use Rattle.fk_replay_phases.specs.Joints.{joint_at};
 ghost use Rattle.fk_replay.specs.Ranges.{AreRanges};
 ghost use Rattle.fk_replay.specs.Steady.{IsSteady};
 ghost use Rattle.fk_replay.specs.Taken.{IsRun, state_of, IsTaken, is_last_of};
+ghost use Rattle.fk_replay.specs.Asked.{IsAsked, IsAskedAs, IsSomeAsked};
 
-use crate::able::forget_all;
 use crate::enlist::enlist;
 use crate::run::Run;
 use fk_core::CoreOp;
+use fk_replay_arrivals::forget_all;
 use fk_replay_phases::{Fault, all_fit, begin_all, dismiss, do_requests};
 use fk_replay_text::Acts;
 use fk_replay_trees::{change_all, settle_all};
@@ -43,24 +45,66 @@ impl Run {
         requires run { IsRun self.old }
         requires ranges { AreRanges (processors self.old.tree) (map range_of acts.now) }
         requires steady { IsSteady ops.now (setting_of self.old.setting) (state_of self.old) }
-        requires given { (tree_of self.old.tree).given + 2 ^ 28 ≤ 2 ^ 63 }
+        requires arrived { length self.old.arrived.items ≡ processors self.old.tree }
+        requires given { (tree_of self.old.tree).given + 2 ^ 28 < 2 ^ 63 }
         ensures taken { IfOk result (IsTaken ops.now
             (round_of (processors self.old.tree) (map range_of acts.now)) self.old self.new) }
     {
+        match self.ask(ops, acts)? {
+            Outcome::Possible => self.finish(ops),
+            Outcome::Stopped(fault) => Ok(self.stop(ops, fault)),
+            Outcome::NotPossible => Ok(Outcome::NotPossible),
+        }
+    }
+
+    /// Does the local operations and the requests of a round. It tells what the round is as far as
+    /// these decide it.
+    fn ask(&mut self, ops: &[CoreOp], acts: &[Acts]) -> Result<Outcome, AllocError>
+        requires few { length ops.now < 2 ^ 32 }
+        requires run { IsRun self.old }
+        requires ranges { AreRanges (processors self.old.tree) (map range_of acts.now) }
+        requires steady { IsSteady ops.now (setting_of self.old.setting) (state_of self.old) }
+        ensures asked { IfOk result (IsAskedAs ops.now
+            (round_of (processors self.old.tree) (map range_of acts.now)) self.old self.new) }
+    {
         enlist(&self.tree, acts, &mut self.counts, &mut self.acting)?;
-        let setting = self.setting;
-        if !begin_all(setting, ops, &self.acting, &self.counts, &mut self.actors)? {
+        let can = begin_all(self.setting, ops, &self.acting, &self.counts, &mut self.actors)?;
+        if !can {
             return Ok(Outcome::NotPossible);
         }
-        let (acting, actors) = (&self.acting, &mut self.actors);
-        if let Some(fault) = do_requests(self.alloc, ops, acting, &mut self.store, actors)? {
-            let stops = self.is_last(fault.processor) && self.fit(ops, fault.processor);
-            return Ok(if stops {
-                Outcome::Stopped(fault)
-            } else {
-                Outcome::NotPossible
-            });
+        match do_requests(self.alloc, ops, &self.acting, &mut self.store, &mut self.actors)? {
+            Some(fault) => Ok(Outcome::Stopped(fault)),
+            None => Ok(Outcome::Possible),
         }
+    }
+
+    /// Whether a fault among the requests stops the round, or the round is not possible.
+    fn stop(&self, ops: &[CoreOp], fault: Fault) -> Outcome
+        requires few { length ops.now < 2 ^ 32 }
+        requires asked { IsSomeAsked ops.now self.now (Some fault) }
+        // This holds whatever round it is, and whatever run was before it.
+        ensures { (round : Round) (old : Run) → IsAsked ops.now round old self.now (Some fault)
+            → IsTaken ops.now round old self.now result }
+    {
+        if !self.is_last(fault.processor) {
+            return Outcome::NotPossible;
+        }
+        if !self.fit(ops, fault.processor) {
+            return Outcome::NotPossible;
+        }
+        Outcome::Stopped(fault)
+    }
+
+    /// Does the steps of the tree in a round without a fault, if all who are in it fit together.
+    fn finish(&mut self, ops: &[CoreOp]) -> Result<Outcome, AllocError>
+        requires few { length ops.now < 2 ^ 32 }
+        requires asked { IsSomeAsked ops.now self.old None }
+        requires arrived { length self.old.arrived.items ≡ processors self.old.tree }
+        requires given { (tree_of self.old.tree).given + 2 ^ 28 < 2 ^ 63 }
+        // This holds whatever round it is, and whatever run was before it.
+        ensures { (round : Round) (old : Run) → IsAsked ops.now round old self.old None
+            → IfOk result (IsTaken ops.now round old self.new) }
+    {
         if !self.fit(ops, u32::MAX) {
             return Ok(Outcome::NotPossible);
         }
@@ -83,8 +127,8 @@ impl Run {
 
     /// Whether all who act fit together, if those above a last one act wherever they are needed.
     fn fit(&self, ops: &[CoreOp], last: u32) -> bool
-        requires counts { vec_len self.now.counts ≡ processors self.now.tree }
-        requires actors { vec_len self.now.actors ≡ processors self.now.tree }
+        requires counts { length self.now.counts.items ≡ processors self.now.tree }
+        requires actors { length self.now.actors.items ≡ processors self.now.tree }
         requires acting { self.now.acting.items
             ≡ all_acting (tree_of self.now.tree) (present 0 self.now.counts.items) }
         requires modes { HaveModes (tree_of self.now.tree) self.now.actors.items }

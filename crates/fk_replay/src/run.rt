@@ -13,19 +13,12 @@ use crate::end::End;
 use fk_core::CoreOp;
 use fk_meaning_state::{Processor, Setting};
 use fk_meaning_store::Store32;
+use fk_replay_arrivals::Arrived;
 use fk_replay_phases::{Acting, Actor, Fault};
 use fk_replay_rounds::Mode;
-use fk_replay_steps::{Due, Pace, Runner};
+use fk_replay_steps::{Pace, Runner};
 use fk_tree::Tree;
 use std::alloc::{AllocError, Global};
-
-/// How many members of a node stand at a joint operation.
-#[derive(Clone, Copy)]
-pub(crate) struct Arrived {
-    pub(crate) starting: u32,
-    pub(crate) at_barrier: u32,
-    pub(crate) closing: u32,
-}
 
 /// The state of a run, and what is needed to go on with it.
 #[derive(Drop)]
@@ -84,7 +77,7 @@ fn first_actors(
 
 /// Nobody stands at a joint operation.
 fn none_arrived(alloc: Global, processors: u32) -> Result<Vec<Arrived>, AllocError>
-    ensures { IfOk result (λ arrived. NoneArrived arrived.items) }
+    ensures { IfOk result (λ arrived. NoneArrived processors arrived.items) }
 {
     let mut arrived = Vec::new(alloc);
     for _number in 0..processors {
@@ -124,15 +117,6 @@ impl Run {
             acting: Vec::new(alloc),
             arrived: none_arrived(alloc, processors)?,
         })
-    }
-
-    /// The operation that is due for a processor.
-    pub(crate) fn due(&self, ops: &[CoreOp], processor: u32) -> Option<Due> {
-        self.actors[processor as usize].runner.due(ops)
-    }
-
-    pub(crate) fn mode(&self, processor: u32) -> Mode {
-        self.actors[processor as usize].mode
     }
 
     /// Whether no processor has anything left to do.

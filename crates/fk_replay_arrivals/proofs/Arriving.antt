@@ -25,7 +25,8 @@ use Rattle.fk_replay_able.proofs.Able.{same_is, same_self}
 use Rattle.fk_replay_able.proofs.Arrivals.{arrivals_know_able}
 use Rattle.fk_replay_arrivals.specs.declared.arrived.Arrived.{Arrived}
 use Rattle.fk_replay_arrivals.specs.Arrived.{number_in, number_for, arrived_in, is_known, HasNumber, HaveBegun, AreOf, KnowsBehind}
-use Rattle.fk_replay_arrivals.proofs.Begun.{BeginsOne, set_here, set_there}
+use Rattle.fk_replay_arrivals.proofs.Begun.{BeginsOne}
+use Rattle.fk_replay_arrivals.proofs.Counting.{IsSetAt}
 
 module _ (core : List CoreOp) (tree : Tree) (actors : List Actor) (h : ℕ) (a : Actor) (at : slice_get actors h ≡ Some a) (modes : HaveModes tree actors) (joint : Joint)
     (joint_is : joint_due (next core (position_of a.runner)) ≡ joint) where
@@ -83,43 +84,18 @@ module _ (core : List CoreOp) (tree : Tree) (actors : List Actor) (h : ℕ) (a :
       (arriving set s of coming (is_known pace) (arrived_in arrived) stands knows).awaits (before_is set s of ∙ resume) (free_by set s of false waits) (ready_is set s of ∙ off)
 
   -- the lowest member counts one more, if there is room for it
-  pub record CountsAt (old new : List Arrived) : Type 0 where
-    pub one : arrived_in new (lowest (t.members tree (tree.places h))) joint ≡ suc (arrived_in old (lowest (t.members tree (tree.places h))) joint)
-    pub same : (g : ℕ) (k : Joint) → ((g ≡ lowest (t.members tree (tree.places h))) × (k ≡ joint) → ⊥) → arrived_in new g k ≡ arrived_in old g k
-
-  -- so it does if its numbers are replaced by those with one more
-  pub counts_set : (was : List Arrived) (x y : Arrived) (number : ℕ) → slice_get was (lowest (t.members tree (tree.places h))) ≡ Some x → HasNumber joint number x y
-      → number ≡ suc (number_in joint x) → CountsAt was (set was (lowest (t.members tree (tree.places h))) y)
-  counts_set was x y number there has number_is = record {
-    one =
-        ap (number_for joint) (set_here was (lowest (t.members tree (tree.places h))) y (slice_get_within was (lowest (t.members tree (tree.places h))) x there))
-        ∙ has joint ∙ ap (λ (b : Bool). if b then number else number_in joint x) (same_self joint) ∙ number_is
-        ∙ sym (ap (λ (o : Option Arrived). suc (number_for joint o)) there);
-    same = λ g k other. by g k other (cases_eq g (lowest (t.members tree (tree.places h))));
-  }
-    where
-      apart : (k : Joint) → (k ≡ joint → ⊥) → (b : Bool) → same_joint k joint ≡ b → same_joint k joint ≡ false
-      apart k ne false e = e
-      apart k ne true e = absurd (ne (sym (same_is k joint e)))
-
-      by : (g : ℕ) (k : Joint) → ((g ≡ lowest (t.members tree (tree.places h))) × (k ≡ joint) → ⊥) → (g ≡ lowest (t.members tree (tree.places h))) ⊎ (g ≡ lowest (t.members tree (tree.places h)) → ⊥)
-          → arrived_in (set was (lowest (t.members tree (tree.places h))) y) g k ≡ arrived_in was g k
-      by g k other (inr ne) = ap (number_for k) (set_there was (lowest (t.members tree (tree.places h))) g y ne)
-      by g k other (inl is) =
-          ap (λ (i : ℕ). arrived_in (set was (lowest (t.members tree (tree.places h))) y) i k) is
-          ∙ ap (number_for k) (set_here was (lowest (t.members tree (tree.places h))) y (slice_get_within was (lowest (t.members tree (tree.places h))) x there))
-          ∙ has k ∙ ap (λ (b : Bool). if b then number else number_in k x) (apart k (λ e. other (is, e)) (same_joint k joint) refl)
-          ∙ sym (ap (number_for k) there) ∙ sym (ap (λ (i : ℕ). arrived_in was i k) is)
+  abbrev pub CountsAt : (old new : List Arrived) → Type 0
+  CountsAt old new = IsSetAt (lowest (t.members tree (tree.places h))) joint (suc (arrived_in old (lowest (t.members tree (tree.places h))) joint)) old new
 
   module _ (set : Setting) (s : State Position) (of : AreOf tree actors s) (coming : List ℕ) (able : ℕ → Bool) (old new : List Arrived) (counts : CountsAt old new) where
     counts_one : CountsOne (next core) s h coming able (arrived_in old) (arrived_in new)
     counts_one = record {
       one =
           ap (λ (k : Joint). arrived_in new (lowest (t.members s.tree (s.tree.places h))) k) (before_is set s of)
-          ∙ ap (λ (ms : List ℕ). arrived_in new (lowest ms) joint) (members_are set s of) ∙ counts.one
+          ∙ ap (λ (ms : List ℕ). arrived_in new (lowest ms) joint) (members_are set s of) ∙ counts.here
           ∙ sym (ap (λ (ms : List ℕ). suc (arrived_in old (lowest ms) joint)) (members_are set s of))
           ∙ sym (ap (λ (k : Joint). suc (arrived_in old (lowest (t.members s.tree (s.tree.places h))) k)) (before_is set s of));
-      same = λ g k other. counts.same g k (λ x. other (x.0 ∙ sym (ap lowest (members_are set s of)), x.1 ∙ sym (before_is set s of)));
+      same = λ g k other. counts.kept g k (λ x. other (x.0 ∙ sym (ap lowest (members_are set s of)), x.1 ∙ sym (before_is set s of)));
     }
 
     number_now : arrived_in new (lowest (t.members s.tree (s.tree.places h))) (joint_before (next core) s h) ≡ arrived_in new (lowest (t.members tree (tree.places h))) joint

@@ -6,7 +6,7 @@ use Rattle.fk_replay_steps.specs.Pace.{Absences, if_there, since, begun}
 use Rattle.fk_replay_arrivals.specs.Arrived.{is_known, HaveBegun, BecomesKnown}
 
 -- one element is replaced
-set_length : {A : Type 0} (xs : List A) (i : ℕ) (x : A) → length (set xs i x) ≡ length xs
+pub set_length : {A : Type 0} (xs : List A) (i : ℕ) (x : A) → length (set xs i x) ≡ length xs
 set_length [] i x = refl
 set_length (y ∷ xs) zero x = refl
 set_length (y ∷ xs) (suc i) x = ap (λ (n : ℕ). suc n) (set_length xs i x)

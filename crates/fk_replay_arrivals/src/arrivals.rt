@@ -12,7 +12,7 @@ ghost use Rattle.fk_replay_arrivals.specs.Arrived.{HaveBegun, BecomesKnown, Know
 use crate::arrived::{Arrived, one_more};
 use fk_core::CoreOp;
 use fk_meaning_operation::Joint;
-use fk_replay_phases::{Acting, Actor, joint_of};
+use fk_replay_phases::{Acting, Actor, acting_in, joint_of};
 use fk_replay_rounds::Mode;
 use fk_replay_steps::Pace;
 use fk_tree::Tree;
@@ -36,14 +36,6 @@ fn begin_all(members: &[u32], round: u32, pace: &mut Pace)
 {
     for member in members {
         pace.begin(*member, round);
-    }
-}
-
-/// The lowest of some members, or 0.
-fn lowest_of(members: &[u32]) -> u32 {
-    match members.first() {
-        Some(member) => *member,
-        None => 0,
     }
 }
 
@@ -77,14 +69,16 @@ pub fn arrive(
         pace.begin(number, round);
         return;
     }
-    let node = tree.node_of(number);
-    let members = tree.members(node);
-    let meets = if joint == Joint::Resuming {
-        tree.ready(node) && !pace.is_able(number)
-    } else {
-        one_more(joint, &mut arrived[lowest_of(members) as usize]) as usize == members.len()
-    };
-    if meets {
+    let place = acting_in(tree, number);
+    let members = tree.members(place.node);
+    if joint == Joint::Resuming {
+        if tree.ready(place.node) && !pace.is_able(number) {
+            begin_all(members, round, pace);
+        }
+        return;
+    }
+    let come = one_more(joint, &mut arrived[place.lowest as usize]);
+    if come as usize == members.len() {
         begin_all(members, round, pace);
     }
 }

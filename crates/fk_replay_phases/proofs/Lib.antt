@@ -7,3 +7,4 @@ pub mod Asking
 pub mod Fitting
 pub mod Emptied
 pub mod Highest
+pub mod Few

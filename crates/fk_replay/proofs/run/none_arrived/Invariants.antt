@@ -3,4 +3,4 @@ use Rattle.fk_replay.specs.Arrivals.{NoneArrived}
 use Rattle.fk_replay.proofs.run.none_arrived.Given as goal
 
 abbrev pub invariant-loop-number : goal.invariant-loop-number
-invariant-loop-number l = NoneArrived l.arrived.items
+invariant-loop-number l = NoneArrived l.number l.arrived.items

@@ -5,7 +5,7 @@ use Rattle.fk_tree.specs.Tree as t
 use Rattle.fk_tree.specs.View.{tree_of, processors}
 use Rattle.fk_replay_phases.specs.declared.acting.Acting.{Acting}
 use Rattle.fk_replay_phases.proofs.Highest.{element}
-use Rattle.fk_replay_trees.proofs.Members.{few_members}
+use Rattle.fk_replay_phases.proofs.Few.{few_members}
 use Rattle.fk_replay_trees.proofs.Settling.{Given, next_there, comes_more, settles_more, settles_end}
 use Rattle.fk_replay_trees.proofs.settle.settle_all.Goals as goal
 
