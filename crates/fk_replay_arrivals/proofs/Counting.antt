@@ -1,5 +1,5 @@
 -- How many have come to a joint operation, where the numbers of one processor are replaced.
-use Rattle.std.proofs.Common.{◌≡◌, ◌⊎◌, inl, inr, ℕ, zero, suc, ◌+◌, ◌<◌, ◌≤◌, Bool, true, false, true≢false, List, length, set, slice_get, get_or, Option, Some, None, refl, sym, ap, ◌∙◌, subst, arith, if◌then◌else◌}
+use Rattle.std.proofs.Common.{◌≡◌, ◌⊎◌, inl, inr, ℕ, zero, suc, ◌+◌, ◌<◌, ◌≤◌, ◌^◌, Bool, true, false, true≢false, List, length, set, slice_get, get_or, Option, Some, None, refl, sym, ap, ◌∙◌, subst, arith, if◌then◌else◌}
 use Rattle.std.proofs.lemmas.Bool.{cases_eq}
 use Rattle.std.proofs.lemmas.Option.{slice_get_within, slice_get_read}
 use Rattle.fk_meaning_operation.specs.declared.kinds.Joint.{Joint}
@@ -36,15 +36,33 @@ sets_closing a n Closing = refl
 sets_closing a n Resuming = refl
 
 -- one of them is one more
-module _ (a : Arrived) (joint : Joint) (number : ℕ) where
-  pub more_starting : joint ≡ Starting → number ≡ suc a.starting → HasOneMore joint number a (record a { starting = number })
-  more_starting is e = subst (λ (j : Joint). HasOneMore j number a (record a { starting = number })) (sym is) (record { number_is = e; one = sets_starting a number })
+module _ (a : Arrived) (joint : Joint) (number result : ℕ) (few : number_in joint a + 1 < 2 ^ 32) (result_is : result ≡ number) where
+  pub more_starting : joint ≡ Starting → (a.starting + 1 < 2 ^ 32 → number ≡ a.starting + 1) → HasOneMore joint result a (record a { starting = number })
+  more_starting is new =
+      let same = ap (λ (j : Joint). number_in j a) is in
+      let more = new (omega (arith, few, same)) in
+      subst (λ (j : Joint). HasOneMore j result a (record a { starting = number })) (sym is) (record {
+        number_is = omega (arith, more, result_is);
+        one = subst (λ (n : ℕ). HasNumber Starting n a (record a { starting = number })) (sym result_is) (sets_starting a number);
+      })
 
-  pub more_at_barrier : joint ≡ AtBarrier → number ≡ suc a.at_barrier → HasOneMore joint number a (record a { at_barrier = number })
-  more_at_barrier is e = subst (λ (j : Joint). HasOneMore j number a (record a { at_barrier = number })) (sym is) (record { number_is = e; one = sets_at_barrier a number })
+  pub more_at_barrier : joint ≡ AtBarrier → (a.at_barrier + 1 < 2 ^ 32 → number ≡ a.at_barrier + 1) → HasOneMore joint result a (record a { at_barrier = number })
+  more_at_barrier is new =
+      let same = ap (λ (j : Joint). number_in j a) is in
+      let more = new (omega (arith, few, same)) in
+      subst (λ (j : Joint). HasOneMore j result a (record a { at_barrier = number })) (sym is) (record {
+        number_is = omega (arith, more, result_is);
+        one = subst (λ (n : ℕ). HasNumber AtBarrier n a (record a { at_barrier = number })) (sym result_is) (sets_at_barrier a number);
+      })
 
-  pub more_closing : joint ≡ Closing → number ≡ suc a.closing → HasOneMore joint number a (record a { closing = number })
-  more_closing is e = subst (λ (j : Joint). HasOneMore j number a (record a { closing = number })) (sym is) (record { number_is = e; one = sets_closing a number })
+  pub more_closing : joint ≡ Closing → (a.closing + 1 < 2 ^ 32 → number ≡ a.closing + 1) → HasOneMore joint result a (record a { closing = number })
+  more_closing is new =
+      let same = ap (λ (j : Joint). number_in j a) is in
+      let more = new (omega (arith, few, same)) in
+      subst (λ (j : Joint). HasOneMore j result a (record a { closing = number })) (sym is) (record {
+        number_is = omega (arith, more, result_is);
+        one = subst (λ (n : ℕ). HasNumber Closing n a (record a { closing = number })) (sym result_is) (sets_closing a number);
+      })
 
 -- the joint kinds that are counted
 pub is_closing : (joint : Joint) → is_counted joint ≡ true → (joint ≡ Starting → ⊥) → (joint ≡ AtBarrier → ⊥) → joint ≡ Closing

@@ -18,3 +18,6 @@ tell-requires-clause-arrived c = c.requires.knows.arrived
 
 pub tell-requires-clause-modes : goal.tell-requires-clause-modes
 tell-requires-clause-modes c = c.requires.run.modes
+
+pub returns : goal.returns
+returns c = ?
