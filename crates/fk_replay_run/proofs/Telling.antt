@@ -28,7 +28,7 @@ use Rattle.fk_replay_run.specs.Runs.{IsRun, state_of}
 use Rattle.fk_replay_run.specs.Arrivals.{NoneArrived}
 use Rattle.fk_replay_run.specs.Told.{KnowsAbout, HasTold}
 
-none_since : (p h : ℕ) → since (replicate p None) h ≡ None
+pub none_since : (p h : ℕ) → since (replicate p None) h ≡ None
 none_since zero h = refl
 none_since (suc p) zero = refl
 none_since (suc p) (suc h) = none_since p h
