@@ -1,5 +1,5 @@
 -- Processors that begin a round.
-use Rattle.std.proofs.Common.{◌≡◌, ℕ, zero, suc, ◌+◌, ◌<◌, ◌≤◌, Bool, true, false, ◌&&◌, List, [], ◌∷◌, length, get_or, set, drop, map, Option, Some, None, ap, refl, sym, ◌∙◌, subst, arith}
+use Rattle.std.proofs.Common.{◌≡◌, ℕ, zero, suc, ◌+◌, ◌<◌, ◌≤◌, Bool, true, false, ◌&&◌, List, [], ◌∷◌, length, get_or, set, drop, Some, None, ap, refl, sym, ◌∙◌, subst, arith}
 use Rattle.std.specs.Prelude.{slice_index, slice_get, option_map}
 use Rattle.std.proofs.lemmas.Option.{slice_get-map}
 use Rattle.fk_meaning.specs.Processor.{Setting}
@@ -10,12 +10,12 @@ use Rattle.fk_core.specs.Next.{Position, next}
 use Rattle.fk_replay_steps.specs.Steps.{step_at, callers_of, runner_of}
 use Rattle.fk_replay_phases.specs.Safe.{IsAbout, IsSafeRunner, AreSafe}
 use Rattle.fk_replay_phases.specs.Present.{present, numbers_of}
-use Rattle.fk_replay_phases.specs.Actors.{IsDue, CanBeAsked, CanAllBeAsked, acting_of, actings_of, runners_of, modes_of, asked, BeganAs, HasBegun, HaveBegun, HaveNone, HasDoneOne, HasDoneLocals}
+use Rattle.fk_replay_phases.specs.Actors.{CanBeAsked, acting_of, actings_of, runners_of, modes_of, asked, BeganAs, HasBegun, HaveBegun, HaveNone, HasDoneOne, HasDoneLocals}
 use Rattle.fk_replay_phases.specs.declared.acting.Acting.{Acting}
 use Rattle.fk_replay_phases.specs.declared.actor.Actor.{Actor}
 use Rattle.fk_replay_steps.specs.declared.list.Due.{Due}
 use Rattle.fk_replay_steps.specs.declared.runner.Runner.{Runner}
-use Rattle.fk_replay_phases.proofs.Present.{IsNextActing, next_acting, none_acting}
+use Rattle.fk_replay_phases.proofs.Present.{next_acting, none_acting}
 use Rattle.fk_replay_phases.proofs.Sparse.{SoFar, begun, more, at_end}
 
 module _ (core : List CoreOp) (setting : Setting) where

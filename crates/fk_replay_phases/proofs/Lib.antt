@@ -3,7 +3,6 @@ pub mod Sparse
 pub mod Begins
 pub mod Starts
 pub mod Requests
-pub mod Asking
 pub mod Fitting
 pub mod Emptied
 pub mod Highest

@@ -1,6 +1,6 @@
 -- One operation after the other.
 use Rattle.fk_meaning_state.specs.View.{setting_of}
-use Rattle.std.proofs.Common.{◌<◌, ◌≤◌, arith}
+use Rattle.std.proofs.Common.{arith}
 use Rattle.fk_replay_phases.proofs.Starts.{starts, goes_on, breaks_off, ends}
 use Rattle.fk_replay_phases.proofs.actor.do_locals.Goals as goal
 

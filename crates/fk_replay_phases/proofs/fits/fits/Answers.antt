@@ -1,5 +1,5 @@
 -- A member fits as the mode of its node says.
-use Rattle.std.proofs.Common.{◌≡◌, ◌<◌, ◌∙◌, length, ap, arith}
+use Rattle.std.proofs.Common.{◌∙◌, ap, arith}
 use Rattle.fk_tree.specs.View.{tree_of}
 use Rattle.fk_replay_rounds.specs.Fits.{fits_by}
 use Rattle.fk_replay_rounds.specs.declared.mode.Mode.TheVariants.{Group, Alone, Apart}

@@ -1,5 +1,5 @@
 -- The lowest member is a processor.
-use Rattle.std.proofs.Common.{◌≡◌, ◌<◌, ◌≤◌, length, sym, ◌∙◌, arith}
+use Rattle.std.proofs.Common.{◌≡◌, sym, ◌∙◌, arith}
 use Rattle.fk_meaning_operation.specs.declared.kinds.Joint.TheVariants.{Alone, AtBarrier, Resuming}
 use Rattle.fk_tree.specs.View.{tree_of, processors}
 use Rattle.fk_replay_phases.specs.Joints.{joint_at}

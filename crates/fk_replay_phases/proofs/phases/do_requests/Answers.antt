@@ -1,5 +1,5 @@
 -- One processor after the other asks.
-use Rattle.std.proofs.Common.{◌≡◌, ℕ, ◌+◌, ◌<◌, ◌≤◌, List, length, Some, get_or, slice_get, refl, sym, ◌∙◌, arith}
+use Rattle.std.proofs.Common.{◌≡◌, ◌<◌, length, Some, get_or, slice_get, refl, ◌∙◌, arith}
 use Rattle.std.proofs.lemmas.Option.{slice_get_read}
 use Rattle.fk_meaning_store.specs.View.{store_of, processors_of}
 use Rattle.fk_replay_phases.specs.declared.acting.Acting.{Acting}
