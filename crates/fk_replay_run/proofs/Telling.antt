@@ -2,6 +2,7 @@
 use Rattle.std.proofs.Common.{◌≡◌, ℕ, zero, suc, ◌<◌, ◌≤◌, Bool, true, false, true≢false, ◌⊎◌, inl, inr, List, [], length, replicate, Option, Some, None, is_some, refl, sym, ap, ◌∙◌, subst, arith}
 use Rattle.std.specs.Prelude.{slice_index}
 use Rattle.std.proofs.Math.Path.{fun_ext}
+use Rattle.std.proofs.lemmas.List.{length-replicate}
 use Rattle.fk_tree.specs.Tree as t
 use Rattle.fk_tree.specs.Tree.{is_member, below}
 use Rattle.fk_tree.specs.Sound.{is_ascending}
@@ -32,10 +33,6 @@ pub none_since : (p h : ℕ) → since (replicate p None) h ≡ None
 none_since zero h = refl
 none_since (suc p) zero = refl
 none_since (suc p) (suc h) = none_since p h
-
-many_none : (p : ℕ) → length (replicate {X = Option ℕ} p None) ≡ p
-many_none zero = refl
-many_none (suc p) = ap (λ (n : ℕ). suc n) (many_none p)
 
 module _ (core : List CoreOp) (old : Run) (steady : IsSteady core (setting_of old.setting) (state_of old)) where
   in_tree : IsSteadyInTree (next core) (λ (w : Position). landing core w.at) (setting_of old.setting) (state_of old)
@@ -89,7 +86,7 @@ module _ (core : List CoreOp) (old : Run) (steady : IsSteady core (setting_of ol
   -- what is known before anybody has come
   pub knows_first : IsRun old → old.pace ≡ replicate (processors old.tree) None → NoneArrived (processors old.tree) old.arrived.items → KnowsAbout core old (below (processors old.tree) [])
   knows_first run pace none = record {
-    pace = ap (λ (a : Absences). length a) pace ∙ many_none (processors old.tree);
+    pace = ap (λ (a : Absences). length a) pace ∙ length-replicate (processors old.tree) None;
     arrived = none.many;
     able = subst (λ (known : ℕ → Bool). KnowsAble (next core) (state_of old) (below p []) known (arrived_in old.arrived.items)) (fun_ext (λ h. sym (unknown h)))
         (subst (λ (arrived : ℕ → Joint → ℕ). KnowsAble (next core) (state_of old) (below p []) (λ h. false) arrived) (fun_ext (λ h. fun_ext (λ joint. sym (none.none h joint))))

@@ -1,5 +1,5 @@
 -- What is known when a processor has come, on each way out.
-use Rattle.std.proofs.Common.{◌≡◌, ◌≢◌, ℕ, true, false, ◌<◌, ◌≤◌, length, refl, sym, ap, ◌∙◌, subst, arith, rules}
+use Rattle.std.proofs.Common.{◌≡◌, ◌≢◌, length, refl, sym, ap, ◌∙◌, subst, arith, rules}
 use Rattle.fk_tree.specs.Tree as t
 use Rattle.fk_tree.specs.View.{tree_of, processors}
 use Rattle.fk_meaning_operation.specs.declared.kinds.Joint.TheVariants.{Resuming}
@@ -64,10 +64,11 @@ returns-else-ready-clause-known c = λ coming.
     let resumes : c.joint_of-joint.result ≡ Resuming = search (rules, c.if-eq.ensures) in
     let node = ap (λ x. x.node) c.acting_in-place.ensures in
     elim c.else-ready.branch [
-        else-ready-via-then-ready+else-not-is_able w ↦ resumed_known c.args.ops.now tree c.args.actors.now h a at c.requires.modes c.joint_of-joint.result joint
-            coming c.args.pace.now c.args.arrived.now.items resumes c.if-waits_for_none.ensures (sym w.if-not-is_able.ensures)
-        | else-ready-via-else-ready w ↦ awaits_known c.args.ops.now tree c.args.actors.now h a at c.requires.modes c.joint_of-joint.result joint
-            coming c.args.pace.now c.args.arrived.now.items resumes c.if-waits_for_none.ensures (sym (ap (t.ready tree) node) ∙ sym w.if-ready.ensures) ]
+      | else-ready-via-then-ready+else-not-is_able w ↦ resumed_known c.args.ops.now tree c.args.actors.now h a at c.requires.modes c.joint_of-joint.result joint
+          coming c.args.pace.now c.args.arrived.now.items resumes c.if-waits_for_none.ensures (sym w.if-not-is_able.ensures)
+      | else-ready-via-else-ready w ↦ awaits_known c.args.ops.now tree c.args.actors.now h a at c.requires.modes c.joint_of-joint.result joint
+          coming c.args.pace.now c.args.arrived.now.items resumes c.if-waits_for_none.ensures (sym (ap (t.ready tree) node) ∙ sym w.if-ready.ensures)
+    ]
 
 pub index_mut-requires : goal.index_mut-requires
 index_mut-requires c =

@@ -1,10 +1,10 @@
 -- One more comes.
-use Rattle.std.proofs.Common.{◌≡◌, ℕ, ◌+◌, ◌<◌, ◌≤◌, List, ◌∷◌, length, get_or, sym, subst, arith}
+use Rattle.std.proofs.Common.{ℕ, ◌∷◌, sym, subst, arith}
 use Rattle.fk_tree.specs.View.{tree_of, processors}
 use Rattle.fk_replay_phases.specs.Present.{numbers_of}
 use Rattle.fk_replay_phases.specs.declared.acting.Acting.{Acting}
 use Rattle.fk_replay_arrivals.specs.Arrived.{KnowsBehind}
-use Rattle.fk_replay_arrivals.proofs.Telling.{many_numbers, number_there, number_below, comes_more, comes_all}
+use Rattle.fk_replay_arrivals.proofs.Telling.{many_numbers, number_there, number_below, comes_more}
 use Rattle.fk_replay_arrivals.proofs.arrivals.tell.Goals as goal
 
 abbrev nobody : Acting

@@ -1,5 +1,5 @@
 -- One more comes.
-use Rattle.std.proofs.Common.{◌≡◌, ℕ, ◌+◌, ◌<◌, ◌≤◌, List, [], ◌∷◌, length, sym, subst, arith}
+use Rattle.std.proofs.Common.{ℕ, ◌<◌, [], ◌∷◌, sym, subst, arith}
 use Rattle.fk_tree.specs.Tree.{below}
 use Rattle.fk_tree.specs.View.{tree_of, processors}
 use Rattle.fk_replay_arrivals.specs.Arrived.{KnowsBehind}

@@ -1,5 +1,5 @@
 -- What one more does is forgotten.
-use Rattle.std.proofs.Common.{◌≡◌, ℕ, suc, ◌+◌, ◌<◌, ◌≤◌, length, get_or, subst, sym, ap, arith}
+use Rattle.std.proofs.Common.{◌≡◌, ℕ, suc, ◌+◌, length, get_or, subst, arith}
 use Rattle.std.proofs.lemmas.Option.{slice_get-get_or}
 use Rattle.fk_replay_phases.specs.declared.acting.Acting.{Acting}
 use Rattle.fk_replay_arrivals.proofs.Telling.{number_below}
@@ -35,11 +35,12 @@ loop-member-preserved c =
     let so_far = c.loop-member.invariant in
     subst (λ (n : ℕ). HaveForgottenAt c.args.acting.now c.args.actors.now c.args.arrived.now.items n c.if-member.arrived.items) one
     (elim c.if-member.branch [
-        then-member w ↦ rw w.arrived-is
-            (forgets_there c.args.acting.now c.args.actors.now c.args.arrived.now.items i now x at so_far w.index-actors-number.result w.index_mut.result.now w.forget.new.arrived w.joint_in.result
-            c.requires.many (number_below (length c.args.actors.now) c.args.acting.now i nobody c.requires.within lt) w.index-actors-number.is w.if-member.true w.index_mut.ensures.value
-            w.joint_in.ensures w.forget.ensures)
-        | else-member w ↦ rw w.arrived-is (forgets_not c.args.acting.now c.args.actors.now c.args.arrived.now.items i now x at so_far w.if-member.false) ])
+      | then-member w ↦ rw w.arrived-is
+          (forgets_there c.args.acting.now c.args.actors.now c.args.arrived.now.items i now x at so_far w.index-actors-number.result w.index_mut.result.now w.forget.new.arrived w.joint_in.result
+          c.requires.many (number_below (length c.args.actors.now) c.args.acting.now i nobody c.requires.within lt) w.index-actors-number.is w.if-member.true w.index_mut.ensures.value
+          w.joint_in.ensures w.forget.ensures)
+      | else-member w ↦ rw w.arrived-is (forgets_not c.args.acting.now c.args.actors.now c.args.arrived.now.items i now x at so_far w.if-member.false)
+    ])
 
 pub returns : goal.returns
 returns c =
