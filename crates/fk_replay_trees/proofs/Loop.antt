@@ -66,6 +66,17 @@ module _ (p : ℕ) (old : Tree) (acting : List acts.Acting) (actors : List Actor
     pub own : AreOwn (runners_of actors)
     pub can : CanChange old actors
 
+  pub given_by : p ≤ 1024 → IsSound p old → length actors ≡ p → AreInRound acting actors → acting ≡ map (acting_at old) (numbers_of acting) → AreOwn (runners_of actors) → CanChange old actors → Given
+  given_by few sound many in_round at_old own can = record {
+    few = few;
+    sound = sound;
+    many = many;
+    in_round = in_round;
+    at_old = at_old;
+    own = own;
+    can = can;
+  }
+
   module _ (given : Given) where
     number_is : (h : ℕ) (a : Actor) → slice_get actors h ≡ Some a → (runner_of a.runner).has.number ≡ h
     number_is h a is = (given.own.each h (runner_of a.runner) (get_map (λ (x : Actor). runner_of x.runner) actors h a is)).number
