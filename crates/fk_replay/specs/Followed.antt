@@ -17,10 +17,10 @@ use Rattle.fk_replay_schedules.specs.Paced.{IsPaced, ArePassed}
 use Rattle.fk_replay_steps.specs.Pace.{since}
 use Rattle.fk_replay_phases.specs.Actors.{fault_of}
 use Rattle.fk_replay_phases.specs.declared.phases.Fault.{Fault}
-use Rattle.fk_replay.specs.declared.run.Run.{Run}
-use Rattle.fk_replay.specs.Passed.{KnowsAbout}
-use Rattle.fk_replay.specs.Steady.{IsSteady}
-use Rattle.fk_replay.specs.Taken.{IsRun, state_of}
+use Rattle.fk_replay_run.specs.declared.run.Run.{Run}
+use Rattle.fk_replay_run.specs.Told.{KnowsAbout}
+use Rattle.fk_replay_run.specs.Steady.{IsSteady}
+use Rattle.fk_replay_run.specs.Runs.{IsRun, state_of}
 
 module _ (core : List CoreOp) (set : Setting) (schedule : Schedule) (first : State Position) where
   abbrev behind : ℕ → State Position

@@ -3,6 +3,7 @@ use Rattle.std.proofs.Common.{◌≡◌, ◌⊎◌, inl, inr, ℕ, zero, suc, �
 use Rattle.std.proofs.lemmas.Bool.{cases_eq}
 use Rattle.std.proofs.lemmas.Option.{slice_get_within}
 use Rattle.fk_meaning_operation.specs.declared.kinds.Joint.{Joint}
+use Rattle.fk_meaning_operation.specs.declared.kinds.Joint.TheVariants.{Alone, Starting, AtBarrier, Closing, Resuming}
 use Rattle.fk_meaning.specs.Round.{same_joint}
 use Rattle.fk_replay_steps.specs.declared.list.Due.{Due}
 use Rattle.fk_replay_phases.specs.declared.actor.Actor.{Actor}
@@ -11,6 +12,43 @@ use Rattle.fk_replay_able.proofs.Able.{same_is, same_self}
 use Rattle.fk_replay_arrivals.specs.declared.arrived.Arrived.{Arrived}
 use Rattle.fk_replay_arrivals.specs.Arrived.{number_in, number_for, arrived_in, joint_taken, HasNumber, IsDoneBy, HaveForgotten}
 use Rattle.fk_replay_arrivals.proofs.Begun.{set_length, set_here, set_there}
+
+-- one of the three numbers is another
+pub sets_starting : (a : Arrived) (n : ℕ) → HasNumber Starting n a (record a { starting = n })
+sets_starting a n Alone = refl
+sets_starting a n Starting = refl
+sets_starting a n AtBarrier = refl
+sets_starting a n Closing = refl
+sets_starting a n Resuming = refl
+
+pub sets_at_barrier : (a : Arrived) (n : ℕ) → HasNumber AtBarrier n a (record a { at_barrier = n })
+sets_at_barrier a n Alone = refl
+sets_at_barrier a n Starting = refl
+sets_at_barrier a n AtBarrier = refl
+sets_at_barrier a n Closing = refl
+sets_at_barrier a n Resuming = refl
+
+pub sets_closing : (a : Arrived) (n : ℕ) → HasNumber Closing n a (record a { closing = n })
+sets_closing a n Alone = refl
+sets_closing a n Starting = refl
+sets_closing a n AtBarrier = refl
+sets_closing a n Closing = refl
+sets_closing a n Resuming = refl
+
+-- who acts alone or resumes isn't counted
+pub sets_alone : (a : Arrived) → HasNumber Alone 0 a a
+sets_alone a Alone = refl
+sets_alone a Starting = refl
+sets_alone a AtBarrier = refl
+sets_alone a Closing = refl
+sets_alone a Resuming = refl
+
+pub sets_resuming : (a : Arrived) → HasNumber Resuming 0 a a
+sets_resuming a Alone = refl
+sets_resuming a Starting = refl
+sets_resuming a AtBarrier = refl
+sets_resuming a Closing = refl
+sets_resuming a Resuming = refl
 
 joint_or : (a b : Joint) → (a ≡ b) ⊎ ((a ≡ b → ⊥) × (same_joint a b ≡ false))
 joint_or a b = by (same_joint a b) refl

@@ -4,3 +4,5 @@ pub mod Begun
 pub mod Counting
 -- what is known when one comes
 pub mod Arriving
+-- what is known while all of them come
+pub mod Telling
