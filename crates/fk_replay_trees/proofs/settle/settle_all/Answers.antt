@@ -3,9 +3,12 @@ use Rattle.std.proofs.lemmas.List.{length-set}
 use Rattle.std.proofs.lemmas.Option.{slice_get_read}
 use Rattle.fk_tree.specs.Tree as t
 use Rattle.fk_tree.specs.View.{tree_of, processors}
+use Rattle.fk_meaning.specs.Processor.{values, last}
 use Rattle.fk_replay_phases.specs.declared.acting.Acting.{Acting}
+use Rattle.fk_replay_phases.specs.declared.actor.Actor.{Actor}
 use Rattle.fk_replay_phases.proofs.Highest.{element}
 use Rattle.fk_replay_phases.proofs.Few.{few_members}
+use Rattle.fk_replay_trees.specs.Changes.{has_of}
 use Rattle.fk_replay_trees.proofs.Settling.{Given, next_there, comes_more, settles_more, settles_end}
 use Rattle.fk_replay_trees.proofs.settle.settle_all.Goals as goal
 
@@ -60,19 +63,18 @@ loop-member-preserved c =
     let same = c.loop-member.invariant.0 in
     let kept = length-set now x.number to in (
       omega (arith, held, same, kept),
-      (
-        (λ in_round. comes_more c.args.acting.now c.args.actors.now.items in_round i now x to (c.loop-member.invariant.1 in_round) lt is),
-        λ old given.
-            let at = c.loop-member.invariant.1 c.requires.in_round in
-            let there = next_there c.args.acting.now c.args.actors.now.items c.requires.in_round i now x at lt is in
-            let bound = there.0 in
-            let many = at.many in
-            let low : x.number < length now = omega (arith, bound, many) in
-            let here = slice_get_read now (length now) x.number c.index_mut.result.now refl low c.index_mut.ensures.value in
-            let size = ap length c.members.ensures.members ∙ ap (λ (n : ℕ). length (t.members (tree_of c.args.tree.now) n)) c.node_of.ensures in
-            settles_more (vec_len c.args.actors.now) c.args.ops.now old (tree_of c.args.tree.now) c.args.acting.now c.args.actors.now.items given i now x c.index_mut.result.now to
-            c.last_of.result c.cast-size.result (c.loop-member.invariant.2 old given) lt is here c.last_of.ensures size c.in_ok-settle.ensures,
-      ),
+      (λ in_round. comes_more c.args.acting.now c.args.actors.now.items in_round i now x to (c.loop-member.invariant.1 in_round) lt is),
+      λ old given.
+          let at = c.loop-member.invariant.1 c.requires.in_round in
+          let there = next_there c.args.acting.now c.args.actors.now.items c.requires.in_round i now x at lt is in
+          let bound = there.0 in
+          let many = at.many in
+          let low : x.number < length now = omega (arith, bound, many) in
+          let here = slice_get_read now (length now) x.number c.index_mut.result.now refl low c.index_mut.ensures.value in
+          let size = ap length c.members.ensures.members ∙ ap (λ (n : ℕ). length (t.members (tree_of c.args.tree.now) n)) c.node_of.ensures in
+          let high = c.last_of-highest.ensures ∙ ap (λ (xs : List Actor). last (values (has_of xs x.highest))) c.deref.ensures.value in
+          settles_more (vec_len c.args.actors.now) c.args.ops.now old (tree_of c.args.tree.now) c.args.acting.now c.args.actors.now.items given i now x c.index_mut.result.now to
+          _ _ (c.loop-member.invariant.2 old given) lt is here high size c.in_ok-settle.ensures.settled,
     )
 
 pub index_mut-requires : goal.index_mut-requires
