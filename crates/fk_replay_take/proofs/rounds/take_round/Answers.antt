@@ -12,7 +12,6 @@ use Rattle.fk_replay_take.specs.Asked.{IsAskedAs}
 use Rattle.fk_replay_take.proofs.Composed.{together}
 use Rattle.fk_replay_take.proofs.Served.{arrived_many, given_low}
 use Rattle.fk_replay_take.proofs.Taking.{is_neither_begun}
-use Rattle.fk_replay_take.proofs.Knowing.{knows_about}
 use Rattle.fk_replay_take.proofs.rounds.take_round.Goals as goal
 
 pub finish-requires : goal.finish-requires
