@@ -2,6 +2,7 @@
 
 ghost use Rattle.std.specs.Prelude.{◌≡◌, ℕ, ◌<◌, List, [], ◌∷◌, length, Option};
 ghost use Rattle.fk_tree.specs.declared.node.Kind.{Kind};
+ghost use Rattle.fk_tree.specs.Tree.{below};
 ghost use Rattle.fk_tree.specs.View.{tree_of, processors};
 ghost use Rattle.fk_replay_rounds.specs.Modes.{mode_of};
 ghost use Rattle.fk_replay_phases.specs.Modes.{HaveModes};
@@ -41,7 +42,7 @@ fn begin_all(members: &[u32], round: u32, pace: &mut Pace)
 
 /// A processor comes to its next operation, before a round. All its members could act from this
 /// round on if it is the last of those who meet for a joint operation.
-pub fn arrive(
+fn arrive(
     ops: &[CoreOp],
     tree: &Tree,
     actors: &[Actor],
@@ -80,6 +81,28 @@ pub fn arrive(
     let come = one_more(joint, &mut arrived[place.lowest as usize]);
     if come as usize == members.len() {
         begin_all(members, round, pace);
+    }
+}
+
+/// All processors come to their first operations, before the first round.
+pub fn tell_first(
+    ops: &[CoreOp],
+    tree: &Tree,
+    actors: &[Actor],
+    pace: &mut Pace,
+    arrived: &mut Vec<Arrived>,
+)
+    requires actors { length actors.now ≡ processors tree.now }
+    requires pace { length pace.old ≡ processors tree.now }
+    requires arrived { length arrived.old.items ≡ processors tree.now }
+    requires modes { HaveModes (tree_of tree.now) actors.now }
+    ensures begun { BecomesKnown 1 pace.old pace.new }
+    ensures many { length arrived.new.items ≡ length arrived.old.items }
+    ensures known { KnowsBehind ops.now (tree_of tree.now) actors.now
+        (below (processors tree.now) []) [] pace.old pace.new arrived.old.items arrived.new.items }
+{
+    for number in 0..actors.len() as u32 {
+        arrive(ops, tree, actors, number, 1, pace, arrived);
     }
 }
 

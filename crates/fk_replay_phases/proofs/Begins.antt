@@ -1,5 +1,5 @@
 -- Processors that begin a round.
-use Rattle.std.proofs.Common.{◌≡◌, ℕ, zero, suc, ◌+◌, ◌<◌, ◌≤◌, Bool, true, false, ◌&&◌, List, [], ◌∷◌, length, get_or, set, drop, map, Option, Some, None, ap, refl, sym, ◌∙◌, subst, arith}
+use Rattle.std.proofs.Common.{◌≡◌, ℕ, zero, suc, ◌+◌, ◌<◌, ◌≤◌, Bool, true, false, ◌&&◌, List, [], ◌∷◌, length, get_or, set, drop, Some, None, ap, refl, sym, ◌∙◌, subst, arith}
 use Rattle.std.specs.Prelude.{slice_index, slice_get, option_map}
 use Rattle.std.proofs.lemmas.Option.{slice_get-map}
 use Rattle.fk_meaning.specs.Processor.{Setting}
@@ -10,12 +10,12 @@ use Rattle.fk_core.specs.Next.{Position, next}
 use Rattle.fk_replay_steps.specs.Steps.{step_at, callers_of, runner_of}
 use Rattle.fk_replay_phases.specs.Safe.{IsAbout, IsSafeRunner, AreSafe}
 use Rattle.fk_replay_phases.specs.Present.{present, numbers_of}
-use Rattle.fk_replay_phases.specs.Actors.{IsDue, CanBeAsked, CanAllBeAsked, acting_of, actings_of, runners_of, modes_of, asked, BeganAs, HasBegun, HaveBegun, HaveNone, HasDoneOne, HasDoneLocals}
+use Rattle.fk_replay_phases.specs.Actors.{CanBeAsked, acting_of, actings_of, runners_of, modes_of, asked, BeganAs, HasBegun, HaveBegun, HaveNone, HasDoneOne, HasDoneLocals}
 use Rattle.fk_replay_phases.specs.declared.acting.Acting.{Acting}
 use Rattle.fk_replay_phases.specs.declared.actor.Actor.{Actor}
 use Rattle.fk_replay_steps.specs.declared.list.Due.{Due}
 use Rattle.fk_replay_steps.specs.declared.runner.Runner.{Runner}
-use Rattle.fk_replay_phases.proofs.Present.{IsNextActing, next_acting, none_acting}
+use Rattle.fk_replay_phases.proofs.Present.{next_acting, none_acting}
 use Rattle.fk_replay_phases.proofs.Sparse.{SoFar, begun, more, at_end}
 
 module _ (core : List CoreOp) (setting : Setting) where
@@ -123,8 +123,8 @@ module _ (core : List CoreOp) (setting : Setting) where
   pub begins_more : (round : Round) (acting : List Acting) (old now : List Actor) (i : ℕ) (x : Acting) (a new : Actor) (can : Bool) → BeginsAt round acting old i now → HaveNone old → length round ≡ length old
       → i < length acting → x ≡ get_or acting i x → slice_get now x.number ≡ Some a → HasBegun core setting (slice_index round x.number) a new can → can ≡ true
       → BeginsAt round acting old (i + 1) (set now x.number new)
-  begins_more round acting old now i x a new can at none many lt is here tells yes =
-      let has : HasBegun core setting (slice_index round x.number) a new true = subst (HasBegun core setting (slice_index round x.number) a new) yes tells in
+  begins_more round acting old now i x a new can at none many lt is here tells holds =
+      let has : HasBegun core setting (slice_index round x.number) a new true = subst (HasBegun core setting (slice_index round x.number) a new) holds tells in
       let ahead = next_acting round at.n acting i x at.ahead lt is in
       record {
         n = suc x.number;

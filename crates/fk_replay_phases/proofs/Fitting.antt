@@ -1,21 +1,18 @@
 -- Those who act, one after the other, fit to the lowest members of their nodes.
-use Rattle.std.proofs.Common.{◌≡◌, ℕ, zero, suc, ◌+◌, ◌<◌, ◌≤◌, Bool, true, false, ◌⊎◌, inl, inr, List, [], ◌∷◌, length, get_or, drop, map, Option, Some, None, ap, refl, sym, ◌∙◌, subst, arith}
-use Rattle.std.specs.Prelude.{slice_index, slice_get}
+use Rattle.std.proofs.Common.{◌≡◌, ℕ, suc, ◌+◌, ◌<◌, ◌≤◌, Bool, true, false, ◌⊎◌, inl, inr, List, [], ◌∷◌, length, get_or, drop, map, ap, refl, sym, ◌∙◌, subst, arith}
+use Rattle.std.specs.Prelude.{slice_index}
 use Rattle.fk_tree.specs.Tree as t
 use Rattle.fk_tree.specs.Tree.{Tree}
 use Rattle.fk_meaning_operation.specs.declared.kinds.Joint.{Joint}
 use Rattle.fk_meaning.specs.Round.{Round}
 use Rattle.fk_replay_rounds.specs.Modes.{mode_of}
-use Rattle.fk_replay_rounds.specs.Fits.{fits_by, all_fit_below, AreThere, FitByLowest}
+use Rattle.fk_replay_rounds.specs.Fits.{fits_by, all_fit_below, AreThere}
 use Rattle.fk_replay_rounds.proofs.Fitting.{tell}
 use Rattle.fk_replay_phases.specs.Present.{present, numbers_of, acting_at, all_acting}
 use Rattle.fk_replay_phases.specs.declared.acting.Acting.{Acting}
-use Rattle.fk_replay_phases.proofs.Present.{IsNextActing, next_acting, none_acting}
+use Rattle.fk_replay_phases.proofs.Present.{next_acting, none_acting}
 
 module _ (round : Round) (last : ℕ) (joint : ℕ → Joint) (tree : Tree) (p : ℕ) (acting : List Acting) where
-  abbrev Fits : ℕ → Type 0
-  Fits h = fits_by round last joint tree h (tree.places h) (mode_of (t.kind tree (tree.places h))) ≡ true
-
   pub record FitsAt (i : ℕ) : Type 0 where
     pub n : ℕ
     pub ahead : present n (drop n round) ≡ numbers_of (drop i acting)

@@ -1,11 +1,11 @@
 -- The phase of requests, of which only those who have taken an operation have a part.
-use Rattle.std.proofs.Common.{◌≡◌, ℕ, zero, suc, ◌+◌, ◌<◌, ◌≤◌, Bool, true, false, ◌⊎◌, inl, inr, List, [], ◌∷◌, length, get_or, set, drop, map, Option, Some, None, ap, refl, sym, ◌∙◌, subst, arith}
+use Rattle.std.proofs.Common.{◌≡◌, ℕ, zero, suc, ◌+◌, ◌<◌, ◌≤◌, Bool, true, ◌⊎◌, inl, inr, List, [], ◌∷◌, length, get_or, set, drop, map, Option, Some, None, ap, refl, sym, ◌∙◌, subst, arith}
 use Rattle.std.specs.Prelude.{slice_index, slice_get, option_map, if◌then◌else◌}
 use Rattle.std.proofs.lemmas.List.{length-map, length-reverse, length-set}
 use Rattle.std.proofs.lemmas.Option.{slice_get-map}
 use Rattle.fk_meaning_operation.specs.Kinds.{class_of}
 use Rattle.fk_meaning_operation.specs.declared.kinds.Class.{Class}
-use Rattle.fk_meaning_operation.specs.declared.kinds.Class.TheVariants.{Local, Request, Tree}
+use Rattle.fk_meaning_operation.specs.declared.kinds.Class.TheVariants.{Tree}
 use Rattle.fk_meaning_store.specs.Store.{Store}
 use Rattle.fk_meaning_state.specs.View.{processor_of, call_of}
 use Rattle.fk_meaning.specs.Group.{has_room}
@@ -16,12 +16,12 @@ use Rattle.fk_core.specs.Next.{Position}
 use Rattle.fk_replay_steps.specs.Steps.{step_at, callers_of, runner_of}
 use Rattle.fk_replay_rounds.specs.Own.{IsOwn, AreOwn}
 use Rattle.fk_replay_phases.specs.Present.{present, numbers_of}
-use Rattle.fk_replay_phases.specs.Actors.{acting_of, actings_of, due_of, runners_of, modes_of, AreInRound, CanBeAsked, CanAllBeAsked, IsReady, AreReady, HasPassed, HasBroken, HasAsked, HaveAsked, fault_of}
+use Rattle.fk_replay_phases.specs.Actors.{acting_of, actings_of, due_of, runners_of, modes_of, AreInRound, CanBeAsked, CanAllBeAsked, IsReady, HasPassed, HasBroken, HasAsked, HaveAsked, fault_of}
 use Rattle.fk_replay_phases.specs.declared.acting.Acting.{Acting}
 use Rattle.fk_replay_phases.specs.declared.actor.Actor.{Actor}
 use Rattle.fk_replay_steps.specs.declared.list.Due.{Due}
 use Rattle.fk_replay_phases.specs.declared.phases.Fault as code
-use Rattle.fk_replay_phases.proofs.Present.{IsNextActing, next_acting, none_acting}
+use Rattle.fk_replay_phases.proofs.Present.{next_acting, none_acting}
 use Rattle.fk_replay_phases.proofs.Sparse.{SoFar, begun, below, more, at_end, get_set, get_set_other}
 
 module _ (core : List CoreOp) where
@@ -49,9 +49,6 @@ module _ (core : List CoreOp) where
     where
       no : (due : Due) → a.taken ≡ Some due → ⊥
       no due e = cc
-
-  abbrev Ready : List Actor → ℕ → Type 0
-  Ready now h = (g : ℕ) (y : Actor) → g < h → slice_get now g ≡ Some y → IsReady core y
 
   -- one passes behind others that are ready
   pub pass_one : (n h : ℕ) (now : List Actor) (a new : Actor) (s s' : Store) → slice_get now h ≡ Some a → ((g : ℕ) (y : Actor) → g < h → slice_get now g ≡ Some y → IsReady core y)

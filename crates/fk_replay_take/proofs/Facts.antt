@@ -66,9 +66,6 @@ numbers_map tree (n ∷ ns) = ap (λ ms. n ∷ ms) (numbers_map tree ns)
 pub numbers_are : (tree : Tree) (acting : List acts.Acting) (counts : Round) → acting ≡ all_acting tree (present 0 counts) → numbers_of acting ≡ present 0 counts
 numbers_are tree acting counts is = ap numbers_of is ∙ numbers_map tree (present 0 counts)
 
-pub acting_by_numbers : (tree : Tree) (acting : List acts.Acting) (counts : Round) → acting ≡ all_acting tree (present 0 counts) → acting ≡ all_acting tree (numbers_of acting)
-acting_by_numbers tree acting counts is = is ∙ ap (all_acting tree) (sym (numbers_are tree acting counts is))
-
 get_map : {A B : Type 0} (f : A → B) (xs : List A) (n : ℕ) → slice_get (map f xs) n ≡ option_map f (slice_get xs n)
 get_map f [] n = refl
 get_map f (x ∷ xs) zero = refl

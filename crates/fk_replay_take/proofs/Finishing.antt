@@ -88,7 +88,7 @@ module _ (core : List CoreOp) (round : Round) (old now : Run) (x : IsAsked core 
   abbrev Fit : Bool → Type 0
   Fit b = all_fit round (rounds.joint_at (begin_all (next core) set round s.runners)) tree 0 round ≡ b
 
-  sound : IsSound p tree
+  pub sound : IsSound p tree
   sound = subst (λ (n : ℕ). IsSound n tree) x.run.setting x.steady.stands.sound
 
   pub fit : (b : Bool) → fits_now ≡ b → Fit b
@@ -215,6 +215,12 @@ module _ (core : List CoreOp) (round : Round) (old now : Run) (x : IsAsked core 
       (nodes_step A tree p sound k.does k.may (length-map after (acting_of core) ∙ many) k.steps) in
       modes_follow core tree after p sound many k (tree_of new) steps (served.have_modes tree old.actors.items after x.modes x.run.modes)
       (λ h a is. (own.each h (runner_of a.runner) (slice_get-map (λ (b : Actor). runner_of b.runner) after h ∙ ap (option_map (λ (b : Actor). runner_of b.runner)) is)).number)
+
+  -- those in the round by the tree before it
+  pub at_old : (acting : List acts.Acting) → acting ≡ now.acting.items → acting ≡ all_acting tree (numbers_of acting)
+  at_old acting e =
+      subst (λ (xs : List acts.Acting). xs ≡ all_acting tree (numbers_of xs)) (sym e)
+      (x.acting ∙ ap (all_acting tree) (sym (served.numbers core round old now None x)))
 
   -- ---- the answer
 

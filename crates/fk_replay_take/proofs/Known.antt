@@ -304,7 +304,7 @@ module _ (core : List CoreOp) (tree : Tree) (actors : List Actor) (p : ℕ) (sou
         member_place = place ∙ with_true (is_member h (t.members tree 0)) (place_in (tree.places h) (steps.first (tree.places h)) (first_part count h)) (tree.places h) has
 
         same_test : nat_lt h count ≡ nat_lt h value
-        same_test = let a' = all in test h value (length (t.members tree (tree.places h))) (omega arith)
+        same_test = let a' = all in let l' = lt in test h value (length (t.members tree (tree.places h))) (omega arith)
           where
             test : (h v m : ℕ) → h < m → nat_lt h (min v m) ≡ nat_lt h v
             test h v m lt' = grind arith

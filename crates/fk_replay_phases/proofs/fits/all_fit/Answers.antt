@@ -1,14 +1,11 @@
 -- Those who act fit one after the other.
-use Rattle.std.proofs.Common.{◌≡◌, ℕ, ◌<◌, ◌≤◌, Bool, true, false, List, length, get_or, sym, ap, subst, ◌∙◌, arith}
-use Rattle.fk_tree.specs.Tree as t
+use Rattle.std.proofs.Common.{◌<◌, length, get_or, sym, ◌∙◌, arith}
 use Rattle.fk_tree.specs.View.{tree_of, processors}
-use Rattle.fk_replay_rounds.specs.Modes.{mode_of}
-use Rattle.fk_replay_rounds.specs.Fits.{fits_by}
-use Rattle.fk_replay_phases.specs.Present.{present, acting_at}
+use Rattle.fk_replay_phases.specs.Present.{present}
 use Rattle.fk_replay_phases.specs.Joints.{joint_at}
 use Rattle.fk_replay_phases.specs.declared.acting.Acting.{Acting}
 use Rattle.fk_replay_phases.proofs.Highest.{element, element_at}
-use Rattle.fk_replay_phases.proofs.Fitting.{FitsAt, fits_first, fits_at, fits_more, fits_end, fits_not, next_number}
+use Rattle.fk_replay_phases.proofs.Fitting.{fits_first, fits_at, fits_more, fits_end, fits_not, next_number}
 use Rattle.fk_replay_phases.proofs.fits.all_fit.Goals as goal
 
 abbrev nobody : Acting

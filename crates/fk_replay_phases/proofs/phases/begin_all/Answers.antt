@@ -1,5 +1,5 @@
 -- One processor after the other begins.
-use Rattle.std.proofs.Common.{◌≡◌, ℕ, ◌+◌, ◌<◌, ◌≤◌, List, length, get_or, slice_get, refl, sym, arith}
+use Rattle.std.proofs.Common.{◌≡◌, ◌<◌, length, Some, get_or, slice_get, refl, arith}
 use Rattle.std.proofs.lemmas.Option.{slice_get_read}
 use Rattle.fk_meaning_state.specs.View.{setting_of}
 use Rattle.fk_replay_phases.specs.declared.acting.Acting.{Acting}
@@ -59,7 +59,7 @@ loop-member-preserved c =
     let next = begins_next c.args.ops.now (setting_of c.args.setting) c.args.counts.now c.args.acting.now c.args.actors.now.items c.loop-member.actors.items i x c.loop-member.invariant c.requires.untaken
     c.requires.safe many lt is in
     let here : slice_get c.loop-member.actors.items x.number ≡ Some c.index_mut.result.now = slice_get_read c.loop-member.actors.items (length c.loop-member.actors.items) x.number c.index_mut.result.now refl next.high c.index_mut.ensures.value in
-    begins_more c.args.ops.now (setting_of c.args.setting) c.args.counts.now c.args.acting.now c.args.actors.now.items c.loop-member.actors.items i x c.index_mut.result.now c.begin-can.new.actor c.in_ok-can.can
+    begins_more c.args.ops.now (setting_of c.args.setting) c.args.counts.now c.args.acting.now c.args.actors.now.items c.loop-member.actors.items i x c.index_mut.result.now c.begin.new.actor c.in_ok-can.can
     c.loop-member.invariant c.requires.untaken many lt is here c.in_ok-can.ensures.begun c.if-not-can.false
 
 pub returns-then-not-can : goal.returns-then-not-can
@@ -72,10 +72,13 @@ returns-then-not-can c =
     let next = begins_next c.args.ops.now (setting_of c.args.setting) c.args.counts.now c.args.acting.now c.args.actors.now.items c.loop-member.actors.items i x c.loop-member.invariant c.requires.untaken
     c.requires.safe many lt is in
     let here : slice_get c.loop-member.actors.items x.number ≡ Some c.index_mut.result.now = slice_get_read c.loop-member.actors.items (length c.loop-member.actors.items) x.number c.index_mut.result.now refl next.high c.index_mut.ensures.value in
-    begins_not c.args.ops.now (setting_of c.args.setting) c.args.counts.now c.args.acting.now c.args.actors.now.items c.loop-member.actors.items _ i x c.index_mut.result.now c.begin-can.new.actor c.in_ok-can.can
-    c.loop-member.invariant lt is here c.in_ok-can.ensures.begun c.if-not-can.true
+    record {
+      begun = begins_not c.args.ops.now (setting_of c.args.setting) c.args.counts.now c.args.acting.now c.args.actors.now.items c.loop-member.actors.items _ i x c.index_mut.result.now c.begin.new.actor c.in_ok-can.can
+          c.loop-member.invariant lt is here c.in_ok-can.ensures.begun c.if-not-can.true;
+    }
 
 pub returns : goal.returns
-returns c =
-    begins_end c.args.ops.now (setting_of c.args.setting) c.args.counts.now c.args.acting.now c.args.actors.now.items c.loop-member.actors.items c.loop-member.member-index c.loop-member.invariant c.requires.untaken
-    (let held = c.args.actors.now.ok.0 in omega arith) (omega arith)
+returns c = record {
+  begun = begins_end c.args.ops.now (setting_of c.args.setting) c.args.counts.now c.args.acting.now c.args.actors.now.items c.loop-member.actors.items c.loop-member.member-index c.loop-member.invariant c.requires.untaken
+      (let held = c.args.actors.now.ok.0 in omega arith) (omega arith);
+}

@@ -1,5 +1,5 @@
 -- One processor after the other asks.
-use Rattle.std.proofs.Common.{◌≡◌, ℕ, ◌+◌, ◌<◌, ◌≤◌, List, length, Some, get_or, slice_get, refl, sym, ◌∙◌, arith}
+use Rattle.std.proofs.Common.{◌≡◌, ◌<◌, length, Some, get_or, slice_get, refl, ◌∙◌, arith}
 use Rattle.std.proofs.lemmas.Option.{slice_get_read}
 use Rattle.fk_meaning_store.specs.View.{store_of, processors_of}
 use Rattle.fk_replay_phases.specs.declared.acting.Acting.{Acting}
@@ -60,9 +60,9 @@ loop-member-preserved c =
     c.loop-member.invariant.asks many c.requires.own c.requires.can lt is in
     let here : slice_get now x.number ≡ Some a = slice_get_read now (length now) x.number a refl next.high c.index_mut.ensures.value in
     record {
-      asks = asks_more c.args.ops.now c.args.acting.now c.args.actors.now.items now (store_of c.args.store.now) (store_of c.loop-member.store) (store_of c.ask-fault.new.store) i x a c.ask-fault.new.actor
+      asks = asks_more c.args.ops.now c.args.acting.now c.args.actors.now.items now (store_of c.args.store.now) (store_of c.loop-member.store) (store_of c.ask.new.store) i x a c.ask.new.actor
           c.in_ok-fault.fault c.loop-member.invariant.asks lt is here c.in_ok-fault.ensures.asked c.in_default.is;
-      processors = c.ask-fault.ensures.processors ∙ c.loop-member.invariant.processors;
+      processors = c.ask.ensures.processors ∙ c.loop-member.invariant.processors;
     }
 
 pub returns-in-Some-clause-asked : goal.returns-in-Some-clause-asked
@@ -77,7 +77,7 @@ returns-in-Some-clause-asked c =
     let next = asks_next c.args.ops.now (processors_of c.args.store.now) c.args.acting.now c.args.actors.now.items now (store_of c.args.store.now) (store_of c.loop-member.store) i x
     c.loop-member.invariant.asks many c.requires.own c.requires.can lt is in
     let here : slice_get now x.number ≡ Some a = slice_get_read now (length now) x.number a refl next.high c.index_mut.ensures.value in
-    asks_break c.args.ops.now c.args.acting.now c.args.actors.now.items now (store_of c.args.store.now) (store_of c.loop-member.store) (store_of c.ask-fault.new.store) i x a c.ask-fault.new.actor
+    asks_break c.args.ops.now c.args.acting.now c.args.actors.now.items now (store_of c.args.store.now) (store_of c.loop-member.store) (store_of c.ask.new.store) i x a c.ask.new.actor
     (record { site = c.in-Some.site; processor = x.number }) c.in_ok-fault.fault c.loop-member.invariant.asks lt is here c.in_ok-fault.ensures.asked c.in-Some.is refl
 
 pub returns-clause-asked : goal.returns-clause-asked
