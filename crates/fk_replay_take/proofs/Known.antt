@@ -168,8 +168,8 @@ module _ (core : List CoreOp) (tree : Tree) (actors : List Actor) (p : ℕ) (sou
     part_by g m d e le lt = steps.parts g m le (subst (λ x. m < (tree_by tree (who (actings_of core actors)) (steps.first g) g x).given) (sym e) lt)
         ∙ ap (λ x. (tree_by tree (who (actings_of core actors)) (steps.first g) g x).nodes m) e
 
-    kind_at : (h : ℕ) (m : ℕ) (node : Option Node) → new.places h ≡ m → new.nodes m ≡ node → mode_of (t.kind new (new.places h)) ≡ mode_of (t.kind_of node)
-    kind_at h m node place is = ap (λ (k : ℕ). mode_of (t.kind_of (new.nodes k))) place ∙ ap (λ n. mode_of (t.kind_of n)) is
+    kind_at : (h : ℕ) (m : ℕ) (found : Option Node) → new.places h ≡ m → new.nodes m ≡ found → mode_of (t.kind new (new.places h)) ≡ mode_of (t.kind_of found)
+    kind_at h m found place is = ap (λ (k : ℕ). mode_of (t.kind_of (new.nodes k))) place ∙ ap (λ n. mode_of (t.kind_of n)) is
 
     -- a node where nobody changes the tree
     quiet : (h : ℕ) → h < p → known.does (tree.places h) ≡ None → mode_of (t.kind new (new.places h)) ≡ mode_of (t.kind tree (tree.places h))
