@@ -1,5 +1,5 @@
 -- Who could act before a round is told.
-use Rattle.std.proofs.Common.{◌≡◌, ℕ, zero, suc, ◌<◌, ◌≤◌, Bool, true, false, true≢false, ◌⊎◌, inl, inr, List, [], length, replicate, Option, Some, None, is_some, refl, sym, ap, ◌∙◌, subst, arith}
+use Rattle.std.proofs.Common.{◌≡◌, ℕ, zero, suc, ◌<◌, Bool, true, false, true≢false, ◌⊎◌, inl, inr, List, [], length, replicate, None, is_some, refl, sym, ap, ◌∙◌, subst, arith}
 use Rattle.std.specs.Prelude.{slice_index}
 use Rattle.std.proofs.Math.Path.{fun_ext}
 use Rattle.std.proofs.lemmas.List.{length-replicate}
@@ -10,13 +10,11 @@ use Rattle.fk_tree.specs.View.{tree_of, processors}
 use Rattle.fk_tree.proofs.Lists.{below-has, member_at}
 use Rattle.fk_meaning_operation.specs.declared.kinds.Joint.{Joint}
 use Rattle.fk_meaning_state.specs.View.{setting_of}
-use Rattle.fk_meaning.specs.Processor.{Setting}
 use Rattle.fk_meaning.specs.Round.{State}
 use Rattle.fk_core.specs.declared.op.CoreOp.{CoreOp}
 use Rattle.fk_core.specs.Next.{Position, next, landing}
-use Rattle.fk_meaning.specs.Schedule.{CouldAct}
 use Rattle.fk_replay_counts.specs.Steady.{IsSteadyInTree}
-use Rattle.fk_replay_able.specs.Able.{IsAble, IsToldByAble}
+use Rattle.fk_replay_able.specs.Able.{IsToldByAble}
 use Rattle.fk_replay_able.specs.Known.{IsAnnounced, KnowsAble}
 use Rattle.fk_replay_able.proofs.Able.{who_could_act_is_able}
 use Rattle.fk_replay_able.proofs.Arrivals.{openings_know_able}
