@@ -1,5 +1,5 @@
 -- The last processor of a round.
-use Rattle.std.proofs.Common.{◌≡◌, ℕ, zero, suc, ◌+◌, ◌-◌, ◌<◌, ◌≤◌, Bool, true, false, List, [], ◌∷◌, length, Option, Some, None, ap, refl, sym, ◌∙◌, arith}
+use Rattle.std.proofs.Common.{◌≡◌, ℕ, zero, suc, ◌+◌, ◌-◌, ◌<◌, ◌≤◌, true, false, List, [], ◌∷◌, length, Some, None, ap, refl, sym, ◌∙◌, arith}
 use Rattle.std.specs.Prelude.{◌==◌, slice_index, slice_get}
 use Rattle.fk_meaning.specs.Round.{Round}
 use Rattle.fk_replay_phases.specs.Present.{present, numbers_of}

@@ -1,8 +1,7 @@
 -- The ranges of a round, one after the other.
-use Rattle.std.proofs.Common.{◌≡◌, ◌≢◌, ℕ, zero, suc, ◌+◌, ◌-◌, ◌<◌, ◌≤◌, Bool, true, false, ◌&&◌, ◌⊎◌, inl, inr, List, [], ◌∷◌, ◌++◌, length, get_or, set, drop, map, Option, Some, None, ap, refl, sym, ◌∙◌, subst, arith}
+use Rattle.std.proofs.Common.{◌≡◌, ◌≢◌, ℕ, zero, suc, ◌+◌, ◌<◌, ◌≤◌, Bool, true, false, ◌&&◌, ◌⊎◌, inl, inr, List, [], ◌∷◌, ◌++◌, length, get_or, set, drop, map, Option, Some, None, ap, refl, sym, ◌∙◌, subst, arith}
 use Rattle.std.specs.Prelude.{nat_le, slice_index, if◌then◌else◌}
 use Rattle.std.proofs.lemmas.List.{length-set, drop_more, drop_all}
-use Rattle.fk_trace.specs.declared.column.Column.{Column}
 use Rattle.fk_trace.specs.declared.column.Column.TheVariants.{Counts}
 use Rattle.fk_trace.specs.Text.{Range}
 use Rattle.fk_meaning.specs.Round.{Round}

@@ -1,19 +1,16 @@
 -- A run behind the requests of a round: what is asked for by the calls that follow.
-use Rattle.std.proofs.Common.{◌≡◌, ◌≢◌, ℕ, zero, suc, ◌+◌, ◌<◌, ◌≤◌, ◌^◌, Bool, true, false, ◌⊎◌, inl, inr, List, [], ◌∷◌, length, map, Option, Some, None, ap, refl, sym, ◌∙◌, subst, arith}
-use Rattle.std.specs.Prelude.{slice_index, slice_get, option_map, vec_len}
+use Rattle.std.proofs.Common.{◌≡◌, ℕ, zero, suc, ◌+◌, ◌<◌, ◌≤◌, ◌^◌, List, [], ◌∷◌, length, Option, Some, None, ap, refl, sym, ◌∙◌, subst, arith}
+use Rattle.std.specs.Prelude.{slice_index, slice_get}
 use Rattle.std.proofs.lemmas.List.{length-map}
 use Rattle.fk_tree.specs.Tree as t
 use Rattle.fk_tree.specs.declared.tree.Tree as code_tree
 use Rattle.fk_tree.specs.View.{tree_of, processors}
-use Rattle.fk_meaning_store.specs.Store.{Store}
 use Rattle.fk_meaning_store.specs.View.{store_of}
 use Rattle.fk_meaning_state.specs.View.{setting_of}
 use Rattle.fk_meaning.specs.Processor.{Setting}
-use Rattle.fk_meaning.specs.Round as rounds
 use Rattle.fk_meaning.specs.Round.{State, Round}
 use Rattle.fk_core.specs.declared.op.CoreOp.{CoreOp}
 use Rattle.fk_core.specs.Next.{Position, next}
-use Rattle.fk_replay_rounds.specs.declared.mode.Mode.{Mode}
 use Rattle.fk_replay_rounds.specs.Fits.{all_fit_below, AreThere}
 use Rattle.fk_replay_rounds.specs.Stops.{StopsTell}
 use Rattle.fk_replay_stops.proofs.Places.{same_length}
@@ -22,14 +19,13 @@ use Rattle.fk_replay_steps.specs.Steps.{runner_of}
 use Rattle.fk_replay_phases.specs.declared.phases.Fault.{Fault}
 use Rattle.fk_replay_phases.specs.declared.actor.Actor.{Actor}
 use Rattle.fk_replay_phases.specs.Present.{present, numbers_of, all_acting}
-use Rattle.fk_replay_phases.specs.Actors.{runners_of, modes_of, AreInRound}
+use Rattle.fk_replay_phases.specs.Actors.{modes_of, AreInRound}
 use Rattle.fk_replay_phases.specs.Joints.{joint_at}
 use Rattle.fk_replay_phases.specs.Modes.{HaveModes}
 use Rattle.fk_replay_rounds.specs.Modes.{mode_of}
 use Rattle.fk_replay_run.specs.declared.run.Run.{Run}
-use Rattle.fk_replay_run.specs.Steady.{IsSteady}
 use Rattle.fk_replay_run.specs.Runs.{state_of}
-use Rattle.fk_replay_take.specs.Asked.{AreServed, IsAsked}
+use Rattle.fk_replay_take.specs.Asked.{IsAsked}
 use Rattle.fk_replay_take.proofs.Composed.{together}
 use Rattle.fk_replay_take.proofs.Facts.{numbers_map, in_round_after, are_there}
 

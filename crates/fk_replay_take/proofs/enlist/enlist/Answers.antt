@@ -1,5 +1,5 @@
 -- One range after the other.
-use Rattle.std.proofs.Common.{◌≡◌, ℕ, ◌+◌, ◌<◌, ◌≤◌, List, length, map, get_or, refl, sym, ap, ◌∙◌, subst, arith}
+use Rattle.std.proofs.Common.{◌+◌, ◌<◌, length, map, get_or, sym, ◌∙◌, subst, arith}
 use Rattle.fk_tree.specs.View.{tree_of, processors}
 use Rattle.fk_replay_text.specs.View.{range_of}
 use Rattle.fk_replay_text.specs.declared.trace.Acts.{Acts}

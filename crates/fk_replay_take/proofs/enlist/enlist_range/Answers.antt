@@ -1,6 +1,6 @@
 -- One number after the other.
-use Rattle.std.proofs.Common.{◌≡◌, ℕ, ◌+◌, ◌<◌, ◌≤◌, List, length, set, refl, sym, ap, ◌∙◌, arith}
-use Rattle.fk_tree.specs.View.{tree_of, processors}
+use Rattle.std.proofs.Common.{◌<◌, length, set, arith}
+use Rattle.fk_tree.specs.View.{tree_of}
 use Rattle.fk_replay_text.specs.View.{range_of}
 use Rattle.fk_replay_take.proofs.Ranges.{range_first, range_more, range_present, range_end, acting_more}
 use Rattle.fk_replay_take.proofs.enlist.enlist_range.Goals as goal

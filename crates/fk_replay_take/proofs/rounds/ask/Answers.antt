@@ -1,6 +1,6 @@
 -- The beginning and the requests of a round.
-use Rattle.std.proofs.Common.{◌≡◌, ℕ, ◌+◌, ◌<◌, ◌≤◌, List, length, map, Option, Some, None, refl, sym, ap, ◌∙◌, subst, arith}
-use Rattle.fk_tree.specs.View.{tree_of, processors}
+use Rattle.std.proofs.Common.{map, Option, Some, None, refl, sym, ap, ◌∙◌, subst, arith}
+use Rattle.fk_tree.specs.View.{tree_of}
 use Rattle.fk_meaning.specs.Round.{Round}
 use Rattle.fk_replay_text.specs.View.{range_of}
 use Rattle.fk_meaning_store.specs.View.{store_of}

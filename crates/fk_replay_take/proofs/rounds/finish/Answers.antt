@@ -1,5 +1,5 @@
 -- The steps of the tree in a round.
-use Rattle.std.proofs.Common.{◌≡◌, ℕ, ◌+◌, ◌^◌, ◌<◌, ◌≤◌, List, length, map, true, None, refl, sym, ap, ◌∙◌, subst, arith}
+use Rattle.std.proofs.Common.{◌≡◌, ℕ, List, length, true, None, refl, sym, ap, ◌∙◌, subst, arith}
 use Rattle.fk_tree.specs.declared.tree.Tree.{Tree}
 use Rattle.fk_tree.specs.Sound.{IsSound}
 use Rattle.fk_tree.specs.View.{tree_of, processors}

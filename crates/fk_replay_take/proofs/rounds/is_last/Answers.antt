@@ -1,5 +1,5 @@
 -- The last of those who act.
-use Rattle.std.proofs.Common.{ℕ, ◌-◌, List, length, slice_get, ap, ◌∙◌}
+use Rattle.std.proofs.Common.{◌-◌, List, length, slice_get, ap, ◌∙◌}
 use Rattle.fk_replay_phases.specs.declared.acting.Acting.{Acting}
 use Rattle.fk_replay_take.proofs.Last.{last_number}
 use Rattle.fk_replay_take.proofs.rounds.is_last.Goals as goal

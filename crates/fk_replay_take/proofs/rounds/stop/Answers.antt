@@ -1,5 +1,5 @@
 -- Whether a fault stops a round.
-use Rattle.std.proofs.Common.{◌≡◌, ℕ, ◌+◌, ◌<◌, ◌≤◌, List, length, map, Some, refl, sym, ap, ◌∙◌, arith}
+use Rattle.std.proofs.Common.{Some, sym, ◌∙◌}
 use Rattle.fk_replay_take.proofs.Served.{fit_counts, fit_actors, fit_acting, fit_modes, fit_there}
 use Rattle.fk_replay_take.proofs.Stopping.{low, stops, not_last, misfit}
 use Rattle.fk_replay_take.proofs.rounds.stop.Goals as goal

@@ -1,5 +1,5 @@
 -- A round, from its parts.
-use Rattle.std.proofs.Common.{◌≡◌, List, map, Some, None, subst}
+use Rattle.std.proofs.Common.{map, None, subst}
 use Rattle.fk_tree.specs.View.{processors}
 use Rattle.fk_meaning_state.specs.View.{setting_of}
 use Rattle.fk_core.specs.Next.{Position, next}
