@@ -25,24 +25,14 @@ use Rattle.fk_replay_schedules.proofs.Paced.{told_is_late, late_is_told, kept, p
 use Rattle.fk_replay_steps.specs.Pace.{Absences, IsLateNow, IsLeastLate, since}
 use Rattle.fk_replay_phases.specs.Actors.{runners_of, fault_of}
 use Rattle.fk_replay_phases.specs.declared.phases.Fault.{Fault}
-use Rattle.fk_replay.specs.declared.run.Run.{Run}
-use Rattle.fk_replay.specs.Taken.{IsRun, IsDone, IsStoppedBy, state_of}
-use Rattle.fk_replay.specs.Steady.{IsSteady}
-use Rattle.fk_replay.specs.Passed.{AreOnTime, IsFirstLate, KnowsAbout, HasTold, IsPassed, IsPassedWith, IsGood, IsTooLate, IsRefused, HasPassed}
-use Rattle.fk_replay.specs.Followed.{HasDone, HasStopped, HasFollowed, IsUnlawful, AreSteady}
-
--- the same parts, but for the pace and for who has arrived
-pub same_run : (run new : Run) → new ≡ record run { pace = new.pace; arrived = new.arrived } → IsRun run → IsRun new
-same_run run new e x = subst IsRun (sym e) (record {
-  few = x.few;
-  setting = x.setting;
-  store = x.store;
-  actors = x.actors;
-  counts = x.counts;
-  free = x.free;
-  modes = x.modes;
-  own = x.own;
-})
+use Rattle.fk_replay_run.specs.declared.run.Run.{Run}
+use Rattle.fk_replay_run.specs.Runs.{IsRun, state_of}
+use Rattle.fk_replay_take.specs.Taken.{IsDone, IsStoppedBy}
+use Rattle.fk_replay_run.specs.Steady.{IsSteady}
+use Rattle.fk_replay.specs.Passed.{AreOnTime, IsFirstLate, HasPassed, IsGood, IsTooLate, IsRefused, IsSteadyBehind}
+use Rattle.fk_replay_run.specs.Told.{KnowsAbout, HasTold}
+use Rattle.fk_replay.specs.Followed.{HasDone, HasStopped, HasFollowed, IsUnlawful, AreSteady, AreFirstPossible}
+use Rattle.fk_replay.proofs.Passing.{same_run}
 
 module _ (core : List CoreOp) (set : Setting) (schedule : Schedule) (first : State Position) where
   abbrev behind : ℕ → State Position
@@ -110,33 +100,58 @@ module _ (core : List CoreOp) (set : Setting) (schedule : Schedule) (first : Sta
       given = subst (λ (r : Run). (tree_of r.tree).given ≤ 1 + suc n * 2 ^ 28) (sym e) (let low = x.given in let before = done.given in omega arith);
     }
 
+    possible_more : is_possible (next core) set round (behind n) ≡ true → AreFirstPossible core set schedule first (suc n)
+    possible_more there m r low e = by (cases m n low)
+      where
+        cases : (m n : ℕ) → m < suc n → (m < n) ⊎ (m ≡ n)
+        cases m n low = grind arith
+
+        by : (m < n) ⊎ (m ≡ n) → is_possible (next core) set r (behind m) ≡ true
+        by (inl less) = done.passed.possible m r less e
+        by (inr same) =
+            let both : Some round ≡ Some r = sym is ∙ ap (slice_get schedule) (sym same) ∙ e in
+            let one : round ≡ r = cc in
+            subst (λ (x : Round). is_possible (next core) set x (behind m) ≡ true) one
+            (subst (λ (k : ℕ). is_possible (next core) set round (behind k) ≡ true) (sym same) there)
+
+    -- if the round is possible, the state behind it is steady
+    pub steady_behind : AreSteady core set schedule first → IsSteadyBehind core round old
+    steady_behind steady e =
+        let there : is_possible (next core) set round (behind n) ≡ true = possible_is e in
+        let next_is : behind (suc n) ≡ result (next core) set round (behind n) = one_more (next core) set schedule n round first is in
+        let known : IsSteady core set (behind (suc n)) =
+        steady (suc n) (possible_more there) (ap (λ (s : State Position). s.fault) next_is ∙ no_fault (next core) set round (behind n) there) in
+        subst (λ (σ : Setting). IsSteady core σ (result (next core) σ round (state_of old))) (sym done.setting)
+        (subst (λ (s : State Position). IsSteady core set (result (next core) set round s)) (sym done.state)
+        (subst (λ (s : State Position). IsSteady core set s) next_is known))
+
     begins_is : (mid : Run) → setting_of mid.setting ≡ set → state_of mid ≡ behind (suc n) → (old' new' : Since) → Begins (next core) (setting_of mid.setting) (state_of mid) (suc (suc n)) old' new'
         → Begins (next core) set (behind (suc n)) (suc (suc n)) old' new'
     begins_is mid e s old' new' x =
         subst (λ (u : State Position). Begins (next core) set u (suc (suc n)) old' new') s
         (subst (λ (σ : Setting). Begins (next core) σ (state_of mid) (suc (suc n)) old' new') e x)
 
-    pub round_done : (is_last : Bool) (new : Run) → MayFollow n is_last → IsPassed core round (suc n) is_last old new → HasDone core set schedule first (suc n) new
+    pub round_done : (is_last : Bool) (new : Run) → MayFollow n is_last → HasPassed core round (suc n) is_last old new None → HasDone core set schedule first (suc n) new
     round_done is_last new may x = by is_last refl
       where
         passed : ArePassed (next core) set schedule first (suc n)
-        passed = passed_next (next core) set schedule first n round is done.passed (possible_is x.is.possible)
+        passed = passed_next (next core) set schedule first n round is done.passed (possible_is x.taken.possible)
             (none_late n round old.pace x.left is (done.paced within) done.passed x.leaves x.on_time)
 
         mid : Run
-        mid = record (x.done) { pace = x.left }
+        mid = record (x.mid) { pace = x.left }
 
         mid_is : IsBehind mid
-        mid_is = is_behind x.done mid x.is refl
+        mid_is = is_behind x.mid mid x.taken refl
 
         by_last : new ≡ mid → suc n ≡ length schedule → HasDone core set schedule first (suc n) new
         by_last e last =
-            let b = is_behind x.done new x.is (e ∙ ap (λ (r : Run). record (x.done) { pace = r.pace; arrived = r.arrived }) (sym e)) in
+            let b = is_behind x.mid new x.taken (e ∙ ap (λ (r : Run). record (x.mid) { pace = r.pace; arrived = r.arrived }) (sym e)) in
             record { run = b.run; setting = b.setting; state = b.state; given = b.given; passed = passed; paced = λ less. absurd (omega arith); knows = λ less. absurd (omega arith) }
 
         by_others : HasTold core (suc (suc n)) mid new → HasDone core set schedule first (suc n) new
         by_others t =
-            let b = is_behind x.done new x.is t.kept in
+            let b = is_behind x.mid new x.taken t.kept in
             record {
               run = b.run;
               setting = b.setting;
@@ -152,17 +167,17 @@ module _ (core : List CoreOp) (set : Setting) (schedule : Schedule) (first : Sta
         by true e = by_last (x.last e) (may.1 e)
         by false e = by_others (x.told e)
 
-    pub round_stopped : (is_last : Bool) (new : Run) (fault : Fault) → MayFollow n is_last → IsPassedWith core round (suc n) is_last old fault new → HasStopped core set schedule first new fault
+    pub round_stopped : (is_last : Bool) (new : Run) (fault : Fault) → MayFollow n is_last → HasPassed core round (suc n) is_last old new (Some fault) → HasStopped core set schedule first new fault
     round_stopped is_last new fault may x = record {
       n = n;
-      last = may.1 x.last;
+      last = may.1 x.taken.0;
       round = round;
       is = is;
       passed = done.passed;
-      stopped = stopped_is x.is.stopped;
+      stopped = stopped_is x.taken.1.stopped;
       on_time = none_late n round old.pace x.left is (done.paced within) done.passed x.leaves x.on_time;
-      fault = ap (λ (s : State Position). s.fault) (sym result_is) ∙ x.is.fault;
-      store = ap (λ (r : Run). store_of r.store) x.new_is ∙ x.is.store ∙ ap (λ (s : State Position). s.store) result_is;
+      fault = ap (λ (s : State Position). s.fault) (sym result_is) ∙ x.taken.1.fault;
+      store = ap (λ (r : Run). store_of r.store) (x.last x.taken.0) ∙ x.taken.1.store ∙ ap (λ (s : State Position). s.store) result_is;
     }
 
     good_is : (is_last : Bool) → MayFollow n is_last → IsGood core round (suc n) is_last old → IsGoodBehind (next core) set schedule first n round
@@ -199,7 +214,7 @@ module _ (core : List CoreOp) (set : Setting) (schedule : Schedule) (first : Sta
     going = ap (λ (s : State Position). s.fault) (sym done.state)
 
     many : set.processors ≡ length (behind n).runners
-    many = let there = steady n done.passed going in sym there.stands.tree.many
+    many = let there = steady n done.passed.possible going in sym there.stands.tree.many
 
     harts_are : processors run.tree ≡ set.processors
     harts_are = sym done.run.setting ∙ ap (λ (σ : Setting). σ.processors) done.setting

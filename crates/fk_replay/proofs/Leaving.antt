@@ -8,7 +8,9 @@ use Rattle.fk_replay_schedules.specs.Paced.{Leaves}
 use Rattle.fk_replay_schedules.proofs.Paced.{in_or_not}
 use Rattle.fk_replay_steps.specs.Pace.{Absences, if_there, since}
 use Rattle.fk_replay_phases.specs.Present.{present, numbers_of}
+use Rattle.fk_replay_arrivals.proofs.Begun.{set_length}
 use Rattle.fk_replay_phases.specs.declared.acting.Acting.{Acting}
+use Rattle.fk_replay_take.proofs.Places.{present_there, there_present}
 
 set_here : (absences : Absences) (h : ℕ) → since (set absences h None) h ≡ None
 set_here [] h = refl
@@ -32,31 +34,18 @@ same_or (suc g) (suc h) = up (same_or g h)
     up (inl e) = inl (ap suc e)
     up (inr ne) = inr (λ e. ne (omega (arith, e)))
 
--- where a processor stands in the list of those who are in a round
-present_there : (first : ℕ) (round : Round) (h : ℕ) → 0 < slice_index round h → (j : ℕ) × (slice_get (present first round) j ≡ Some (first + h))
-present_there first [] h low = absurd (omega (arith, low))
-present_there first (zero ∷ round) zero low = absurd (omega (arith, low))
-present_there first (zero ∷ round) (suc h) low = let x = present_there (suc first) round h low in (x.0, x.1 ∙ ap (λ (n : ℕ). Some n) (let e : suc first + h ≡ first + suc h = omega arith in e))
-present_there first (suc c ∷ round) zero low = (0, ap (λ (n : ℕ). Some n) (let e : first ≡ first + 0 = omega arith in e))
-present_there first (suc c ∷ round) (suc h) low = let x = present_there (suc first) round h low in (suc x.0, x.1 ∙ ap (λ (n : ℕ). Some n) (let e : suc first + h ≡ first + suc h = omega arith in e))
-
-there_present : (first : ℕ) (round : Round) (j g : ℕ) → slice_get (present first round) j ≡ Some g → (h : ℕ) × (g ≡ first + h) × (0 < slice_index round h)
-there_present first [] j g e = let clash : None ≡ Some g = e in absurd (cc)
-there_present first (zero ∷ round) j g e = let x = there_present (suc first) round j g e in (suc x.0, let e = x.1 in omega (arith, e), x.2)
-there_present first (suc c ∷ round) zero g e = let same : first ≡ g = cc in (0, omega (arith, same), omega arith)
-there_present first (suc c ∷ round) (suc j) g e = let x = there_present (suc first) round j g e in (suc x.0, let e = x.1 in omega (arith, e), x.2)
-
 module _ (acting : List Acting) (old : Absences) where
   -- so many of them have left
   pub record LeavesAt (i : ℕ) (now : Absences) : Type 0 where
+    pub many : length now ≡ length old
     pub gone : (h j : ℕ) (x : Acting) → j < i → slice_get acting j ≡ Some x → x.number ≡ h → since now h ≡ None
     pub kept : (h : ℕ) → ((j : ℕ) (x : Acting) → j < i → slice_get acting j ≡ Some x → x.number ≡ h → ⊥) → since now h ≡ since old h
 
   pub leaves_first : LeavesAt 0 old
-  leaves_first = record { gone = λ h j x low. absurd (omega arith); kept = λ h none. refl }
+  leaves_first = record { many = refl; gone = λ h j x low. absurd (omega arith); kept = λ h none. refl }
 
   pub leaves_more : (i : ℕ) (now : Absences) (x : Acting) → LeavesAt i now → i < length acting → x ≡ get_or acting i x → LeavesAt (i + 1) (set now x.number None)
-  leaves_more i now x at low is = record { gone = λ h j y lt e n. gone h j y e n (cases j i lt) (same_or x.number h); kept = λ h none. kept h none (same_or x.number h) }
+  leaves_more i now x at low is = record { many = set_length now x.number None ∙ at.many; gone = λ h j y lt e n. gone h j y e n (cases j i lt) (same_or x.number h); kept = λ h none. kept h none (same_or x.number h) }
     where
       here : slice_get acting i ≡ Some x
       here = slice_get-get_or acting i x low ∙ ap (λ (y : Acting). Some y) (sym is)

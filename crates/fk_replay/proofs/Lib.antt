@@ -1,13 +1,7 @@
-pub mod Ranges
-pub mod Last
-pub mod Known
-pub mod Composed
-pub mod Taking
-pub mod Facts
+pub mod Ending
 pub mod Following
-pub mod Replays
 pub mod Leaving
+pub mod Passing
+pub mod Replays
 pub mod Timely
 pub mod Traces
-pub mod Opening
-pub mod Passing

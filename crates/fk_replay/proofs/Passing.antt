@@ -1,23 +1,52 @@
 -- What a round makes of a run and its pace.
 use Rattle.std.proofs.Common.{◌≡◌, ℕ, suc, Bool, true, false, true≢false, ◌⊎◌, inl, inr, List, Option, Some, None, refl, sym, ap, ◌∙◌, subst}
 use Rattle.fk_meaning_state.specs.View.{setting_of}
-use Rattle.fk_meaning.specs.Round.{Round}
+use Rattle.fk_meaning.specs.Processor.{Setting}
+use Rattle.fk_meaning.specs.Round.{State, Round}
 use Rattle.fk_core.specs.declared.op.CoreOp.{CoreOp}
-use Rattle.fk_core.specs.Next.{next}
+use Rattle.fk_core.specs.Next.{Position, next}
 use Rattle.fk_replay_text.specs.declared.fault.ReplayFault.{ReplayFault}
 use Rattle.fk_replay_text.specs.declared.fault.ReplayFault.TheVariants.{BadTrace, NotPossible, Pace, Memory}
 use Rattle.fk_replay_schedules.specs.Paced.{Leaves}
 use Rattle.fk_replay_schedules.proofs.Prefixes.{no_fault}
 use Rattle.fk_replay_steps.specs.Pace.{Absences, IsLeastLate, since}
+use Rattle.fk_replay_phases.specs.Present.{present, numbers_of}
 use Rattle.fk_replay_phases.specs.Actors.{fault_of}
 use Rattle.fk_replay_phases.specs.declared.phases.Fault.{Fault}
-use Rattle.fk_replay.specs.declared.run.Run.{Run}
-use Rattle.fk_replay.specs.Taken.{IsDone, IsStoppedBy, IsNeither, state_of}
-use Rattle.fk_replay.specs.Passed.{TellsLate, HasTold, IsPassed, IsPassedWith, IsGood, IsRefused}
+use Rattle.fk_replay_run.specs.declared.run.Run.{Run}
+use Rattle.fk_replay_run.specs.Steady.{IsSteady}
+use Rattle.fk_replay_run.specs.Runs.{IsRun, state_of}
+use Rattle.fk_replay_take.specs.Taken.{IsDone, IsStoppedBy, IsNeither}
+use Rattle.fk_replay.specs.Passed.{TellsLate, HasTaken, HasPassed, IsUntaken, IsGood, IsRefused, IsSteadyBehind}
+use Rattle.fk_replay_run.specs.Told.{HasTold}
+
+-- the same parts, but for the pace and for who has arrived
+pub same_run : (run new : Run) → new ≡ record run { pace = new.pace; arrived = new.arrived } → IsRun run → IsRun new
+same_run run new e x = subst IsRun (sym e) (record {
+  few = x.few;
+  setting = x.setting;
+  store = x.store;
+  actors = x.actors;
+  counts = x.counts;
+  free = x.free;
+  modes = x.modes;
+  own = x.own;
+})
+
+-- the same run with another pace
+pub run_with : (run : Run) (left : Absences) → IsRun run → IsRun (record run { pace = left })
+run_with run left x = same_run run (record run { pace = left }) refl x
 
 module _ (core : List CoreOp) (round : Round) (number : ℕ) (is_last : Bool) (old : Run) where
   abbrev Good : Type 0
   Good = IsGood core round number is_last old
+
+  abbrev Taken : Run → Option Fault → Type 0
+  Taken mid fault = HasTaken core round number is_last old mid fault
+
+  -- those who are in the round leave
+  abbrev LeaveTo : Run → Absences → Type 0
+  LeaveTo mid left = (r : Round) → numbers_of mid.acting.items ≡ present 0 r → Leaves r (since mid.pace) (since left)
 
   pub bad_neither : (mid : Run) → IsNeither core round old mid → Good → ⊥
   bad_neither mid x (inl e) = x.impossible e
@@ -28,39 +57,53 @@ module _ (core : List CoreOp) (round : Round) (number : ℕ) (is_last : Bool) (o
       let both : None ≡ Some (fault_of core fault) = sym (no_fault (next core) (setting_of old.setting) round (state_of old) e) ∙ x.fault in cc
   bad_in_the_middle mid fault x other (inr e) = true≢false (sym e.0 ∙ other)
 
-  pub good_done : (mid : Run) → IsDone core round old mid → Good
-  good_done mid x = inl x.possible
+  is_good : (mid : Run) (fault : Option Fault) → Taken mid fault → Good
+  is_good mid None x = inl x.possible
+  is_good mid (Some fault) x = inr (x.0, x.1.stopped)
 
-  pub good_stopped : (mid : Run) (fault : Fault) → IsStoppedBy core round old mid fault → is_last ≡ true → Good
-  good_stopped mid fault x last = inr (last, x.stopped)
+  same_pace : (mid : Run) (fault : Option Fault) → Taken mid fault → mid.pace ≡ old.pace
+  same_pace mid None x = x.pace
+  same_pace mid (Some fault) x = x.1.pace
 
-  pub is_passed : (mid : Run) (left : Absences) (new : Run) → IsDone core round old mid → Leaves round (since mid.pace) (since left) → IsLeastLate left number None
-      → (is_last ≡ false → HasTold core (suc number) (record mid { pace = left }) new) → (is_last ≡ true → new ≡ record mid { pace = left }) → IsPassed core round number is_last old new
-  is_passed mid left new x leaves on_time told last = record {
-    done = mid;
-    is = x;
+  numbers_are : (mid : Run) (fault : Option Fault) → Taken mid fault → numbers_of mid.acting.items ≡ present 0 round
+  numbers_are mid None x = x.numbers
+  numbers_are mid (Some fault) x = x.1.numbers
+
+  pub leaves_old : (mid : Run) (fault : Option Fault) (left : Absences) → Taken mid fault → LeaveTo mid left → Leaves round (since old.pace) (since left)
+  leaves_old mid fault left x leaves = subst (λ (a : Absences). Leaves round (since a) (since left)) (same_pace mid fault x) (leaves round (numbers_are mid fault x))
+
+  pub is_passed : (mid : Run) (fault : Option Fault) (left : Absences) (new : Run) → Taken mid fault → LeaveTo mid left → IsLeastLate left number None
+      → (is_last ≡ false → HasTold core (suc number) (record mid { pace = left }) new) → (is_last ≡ true → new ≡ record mid { pace = left })
+      → HasPassed core round number is_last old new fault
+  is_passed mid fault left new x leaves on_time told last = record {
+    mid = mid;
+    taken = x;
     left = left;
-    leaves = subst (λ (a : Absences). Leaves round (since a) (since left)) x.pace leaves;
+    leaves = leaves_old mid fault left x leaves;
     on_time = on_time;
     told = told;
     last = last;
   }
 
-  pub is_passed_with : (fault : Fault) (mid : Run) (left : Absences) (new : Run) → IsStoppedBy core round old mid fault → is_last ≡ true → Leaves round (since mid.pace) (since left)
-      → IsLeastLate left number None → new ≡ record mid { pace = left } → IsPassedWith core round number is_last old fault new
-  is_passed_with fault mid left new x last leaves on_time new_is = record {
-    last = last;
-    stopped = mid;
-    is = x;
-    left = left;
-    leaves = subst (λ (a : Absences). Leaves round (since a) (since left)) x.pace leaves;
-    on_time = on_time;
-    new_is = new_is;
-  }
+  pub is_too_late : (mid : Run) (fault : Option Fault) (left : Absences) (reason : ReplayFault) → Taken mid fault → LeaveTo mid left → TellsLate left number reason → IsRefused core round number is_last old reason
+  is_too_late mid fault left (Pace at h) x leaves late =
+      (late.0, record { good = is_good mid fault x; left = left; leaves = leaves_old mid fault left x leaves; late = late.1 })
+  is_too_late mid fault left (BadTrace line) x leaves late = absurd late
+  is_too_late mid fault left (NotPossible at) x leaves late = absurd late
+  is_too_late mid fault left Memory x leaves late = absurd late
 
-  pub is_too_late : (fault : ReplayFault) (now left : Absences) → Good → now ≡ old.pace → Leaves round (since now) (since left) → TellsLate left number fault → IsRefused core round number is_last old fault
-  is_too_late (Pace at h) now left good same leaves late =
-      (late.0, record { good = good; left = left; leaves = subst (λ (a : Absences). Leaves round (since a) (since left)) same leaves; late = late.1 })
-  is_too_late (BadTrace line) now left good same leaves late = absurd late
-  is_too_late (NotPossible at) now left good same leaves late = absurd late
-  is_too_late Memory now left good same leaves late = absurd late
+  pub is_refused : (reason : ReplayFault) → IsUntaken core round number is_last old reason → IsRefused core round number is_last old reason
+  is_refused (NotPossible at) x = x
+  is_refused (Pace at h) x = absurd x
+  is_refused (BadTrace line) x = absurd x
+  is_refused Memory x = tt
+
+  -- unless it is the last one, the round was done
+  pub is_done : (mid : Run) (fault : Option Fault) → Taken mid fault → is_last ≡ false → IsDone core round old mid
+  is_done mid None x e = x
+  is_done mid (Some fault) x e = absurd (true≢false (sym x.0 ∙ e))
+
+  pub behind_steady : (mid : Run) → IsSteadyBehind core round old → IsDone core round old mid → IsSteady core (setting_of mid.setting) (state_of mid)
+  behind_steady mid steady x =
+      subst (λ (σ : Setting). IsSteady core σ (state_of mid)) (ap setting_of (sym x.same))
+      (subst (λ (s : State Position). IsSteady core (setting_of old.setting) s) (sym x.state) (steady x.possible))

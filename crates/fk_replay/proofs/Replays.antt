@@ -16,21 +16,22 @@ use Rattle.fk_replay_text.specs.declared.fault.ReplayFault.TheVariants.{BadTrace
 use Rattle.fk_replay_counts.specs.Steady.{IsSteadyInTree}
 use Rattle.fk_replay_counts.proofs.Steady.{runs_are_steady}
 use Rattle.fk_replay_schedules.specs.Answers.{after}
-use Rattle.fk_replay_schedules.specs.Paced.{ArePassed, Begins}
+use Rattle.fk_replay_schedules.specs.Paced.{Begins}
 use Rattle.fk_replay_schedules.proofs.Paced.{paced_at_first, passed_at_first}
 use Rattle.fk_replay_steps.specs.Pace.{Absences, since}
 use Rattle.fk_replay_schedules.proofs.Prefixes.{first_possible}
 use Rattle.fk_replay_phases.specs.Actors.{runners_of, fault_of}
 use Rattle.fk_replay_phases.specs.declared.phases.Fault.{Fault}
 use Rattle.fk_replay.specs.declared.end.Replayed.{Replayed}
-use Rattle.fk_replay.specs.declared.run.Run.{Run}
-use Rattle.fk_replay.specs.Steady.{IsSteady}
-use Rattle.fk_replay.specs.Taken.{state_of}
-use Rattle.fk_replay.specs.Passed.{HasTold}
+use Rattle.fk_replay_run.specs.declared.run.Run.{Run}
+use Rattle.fk_replay_run.specs.Steady.{IsSteady}
+use Rattle.fk_replay_run.specs.Runs.{state_of}
+use Rattle.fk_replay_run.specs.Told.{HasTold}
 use Rattle.fk_replay.specs.Followed.{HasDone, HasFollowed, IsUnlawful, AreSteady}
-use Rattle.fk_replay.specs.Openings.{IsOpening}
+use Rattle.fk_replay_run.specs.Openings.{IsOpening}
 use Rattle.fk_replay.specs.Replay.{IsOrderly, IsSafe, IsReplay, IsAnswer, setting_in, first_in, stand_in}
-use Rattle.fk_replay.proofs.Following.{same_run, lawful_done, output_done, stand_done, lawful_stopped, output_stopped, stand_stopped}
+use Rattle.fk_replay.proofs.Passing.{same_run}
+use Rattle.fk_replay.proofs.Following.{lawful_done, output_done, stand_done, lawful_stopped, output_stopped, stand_stopped}
 
 words_are_space : (globals inputs p : ℕ) → globals + inputs ≤ 2 ^ 19 → IsSpace (group_space (record { processors = p; globals = globals; inputs = inputs }))
 words_are_space globals inputs p low = record { header = omega arith; ordered = header; within = omega arith; shared = shared }
@@ -53,8 +54,8 @@ module _ (core : List CoreOp) (main : ℕ) (words firsts input : List ℕ) (p : 
 
   -- each state behind possible rounds is steady
   pub are_steady : (schedule : Schedule) → 1 ≤ p → length words + length input ≤ 2 ^ 19 → IsOrderly core main → IsSafe core main words firsts input p → AreSteady core set schedule first
-  are_steady schedule some few orderly safe n passed running =
-      let possible : ArePossible (next core) set (take n schedule) first = first_possible (next core) set schedule first n passed.possible in
+  are_steady schedule some few orderly safe n are_possible running =
+      let possible : ArePossible (next core) set (take n schedule) first = first_possible (next core) set schedule first n are_possible in
       let steady : IsSteadyInTree (next core) (λ (w : Position). landing core w.at) set (after (next core) set schedule first n) =
       runs_are_steady Position ℕ (next core) (λ (w : Position). landing core w.at) (position main []) orderly p words firsts input (take n schedule) some
       (words_are_space (length words) (length input) p few) possible running in
@@ -65,6 +66,14 @@ module _ (core : List CoreOp) (main : ℕ) (words firsts input : List ℕ) (p : 
         known = steady.known;
         together = steady.together;
       }
+
+  -- the state before the first round is steady
+  pub opened_steady : (opened : Run) → IsOpening main words firsts input p opened → 1 ≤ p → length words + length input ≤ 2 ^ 19 → IsOrderly core main → IsSafe core main words firsts input p
+      → IsSteady core (setting_of opened.setting) (state_of opened)
+  opened_steady opened opening some few orderly safe =
+      let steady : AreSteady core set [] first = are_steady [] some few orderly safe in
+      subst (λ (σ : Setting). IsSteady core σ (state_of opened)) (sym opening.setting)
+      (subst (λ (s : State Position). IsSteady core set s) (sym opening.state) (steady 0 (λ m round low e. absurd (omega arith)) refl))
 
   module _ (schedule : Schedule) (r : Run) (replayed : Replayed) where
     pub replay_is : (fault : Option Fault) → HasFollowed core set schedule first r fault → replayed.output.items ≡ (store_of r.store).output
@@ -133,3 +142,21 @@ module _ (core : List CoreOp) (main : ℕ) (words firsts input : List ℕ) (p : 
 
   pub by_begun : (P : Setting → State Position → Type 0) → P (set core main words firsts input p) (first core main words firsts input p) → P (setting_of begun.setting) (state_of begun)
   by_begun P x = subst (λ (s : State Position). P (setting_of begun.setting) s) (sym state_is) (subst (λ (σ : Setting). P σ (first core main words firsts input p)) (sym setting_is) x)
+
+  -- ---- behind the last round
+
+  pub answered : (schedule : Schedule) (r : Run) (fault : Option Fault) (replayed : Replayed) → HasFollowed core (setting_of begun.setting) schedule (state_of begun) r fault
+      → replayed.output.items ≡ (store_of r.store).output
+      → ((σ : Setting) → stand_in replayed.end ≡ stand_by (next core) σ (option_map (fault_of core) fault) (runners_of r.actors.items))
+      → IsReplay core main words firsts input p schedule replayed
+  answered schedule r fault replayed followed output stand =
+      replay_is core main words firsts input p schedule r replayed fault (by_first (λ (σ : Setting) (s : State Position). HasFollowed core σ schedule s r fault) followed) output (stand (set core main words firsts input p))
+
+  pub refused : (schedule : Schedule) (fault : ReplayFault) → IsUnlawful core (setting_of begun.setting) schedule (state_of begun) fault → IsAnswer core main words firsts input p schedule (Err fault)
+  refused schedule fault x =
+      unlawful_is core main words firsts input p schedule fault (by_first (λ (σ : Setting) (s : State Position). IsUnlawful core σ schedule s fault) x)
+
+  pub begun_steady : (schedule : Schedule) → 1 ≤ p → length words + length input ≤ 2 ^ 19 → IsOrderly core main → IsSafe core main words firsts input p
+      → AreSteady core (setting_of begun.setting) schedule (state_of begun)
+  begun_steady schedule some few orderly safe =
+      by_begun (λ (σ : Setting) (s : State Position). AreSteady core σ schedule s) (are_steady core main words firsts input p schedule some few orderly safe)

@@ -18,13 +18,14 @@ use Rattle.fk_replay_text.specs.Rounds.{round_of, ranges_at, schedule_of}
 use Rattle.fk_replay_schedules.specs.Moments.{Moments, AreMoments, AreToCome}
 use Rattle.fk_replay_schedules.proofs.Moments.{to_come_first, later, at_most_last, ranges_are, ranges_there, empty_before, empty_behind, to_come_next, schedule_length, round_at, empty_length, nobody_acts}
 use Rattle.fk_replay_phases.specs.declared.phases.Fault.{Fault}
-use Rattle.fk_replay.specs.declared.run.Run.{Run}
-use Rattle.fk_replay.specs.Ranges.{AreRanges}
-use Rattle.fk_replay.specs.Taken.{state_of}
-use Rattle.fk_replay.specs.Steady.{IsSteady}
-use Rattle.fk_replay.specs.Passed.{AreOnTime, TellsFirstLate, HasPassed, IsRefused, KnowsAbout}
+use Rattle.fk_replay_run.specs.declared.run.Run.{Run}
+use Rattle.fk_replay_take.specs.Ranges.{AreRanges}
+use Rattle.fk_replay_run.specs.Runs.{state_of}
+use Rattle.fk_replay_run.specs.Steady.{IsSteady}
+use Rattle.fk_replay.specs.Passed.{AreOnTime, TellsFirstLate, HasPassed, IsRefused, IsSteadyBehind}
+use Rattle.fk_replay_run.specs.Told.{KnowsAbout}
 use Rattle.fk_replay.specs.Followed.{HasDone, HasFollowed, HasStopped, IsUnlawful, AreSteady}
-use Rattle.fk_replay.proofs.Following.{IsEmptyAt, empties_done, empties_late, round_done, round_stopped, round_refused}
+use Rattle.fk_replay.proofs.Following.{IsEmptyAt, empties_done, empties_late, steady_behind, round_done, round_stopped, round_refused}
 
 drop_next : (items : List Moment) (i : ℕ) (m : Moment) → slice_get items i ≡ Some m → drop i (map moment_of items) ≡ moment_of m ∷ drop (suc i) (map moment_of items)
 drop_next [] i m e = let clash : None ≡ Some m = e in absurd (cc)
@@ -141,14 +142,20 @@ module _ (core : List CoreOp) (set : Setting) (first : State Position) (harts cy
     module _ (before : HasDone core set schedule first (m.cycle - 1) run) where
       pub is_steady : IsSteady core (setting_of run.setting) (state_of run)
       is_steady =
-          let there = steady (m.cycle - 1) before.passed (ap (λ (s : State Position). s.fault) (sym before.state)) in
+          let there = steady (m.cycle - 1) before.passed.possible (ap (λ (s : State Position). s.fault) (sym before.state)) in
           subst (λ (σ : Setting). IsSteady core σ (state_of run)) (sym before.setting) (subst (λ (s : State Position). IsSteady core set s) (sym before.state) there)
 
-      pub has_numbers : cycles < 2 ^ 32 → (tree_of run.tree).given + 2 ^ 28 ≤ 2 ^ 63
+      pub has_numbers : cycles < 2 ^ 32 → (tree_of run.tree).given + 2 ^ 28 < 2 ^ 63
       has_numbers few = let given = before.given in let most = is_within in omega (arith, given, most, few)
 
       pub knows_about : KnowsAbout core run []
       knows_about = before.knows (slice_get_within schedule (m.cycle - 1) round round_is)
+
+      pub has_arrived : length run.arrived.items ≡ processors run.tree
+      has_arrived = let x = knows_about in x.arrived
+
+      pub is_steady_behind : IsSteadyBehind core round run
+      is_steady_behind = steady_behind core set schedule first (m.cycle - 1) round run before round_is steady
 
       pub round_after : (is_last : Bool) (new : Run) → is_last ≡ (m.cycle == cycles) → HasPassed core round m.cycle is_last run new None → IsFollowing core set first harts cycles items (i + 1) m.cycle new
       round_after is_last new e x = record {

@@ -1,10 +1,11 @@
 -- A run in memory behind so many rounds of a schedule.
-use Rattle.std.specs.Prelude.{◌≡◌, ℕ, suc, ◌+◌, ◌*◌, ◌^◌, ◌<◌, ◌≤◌, List, [], Option, Some, None, length, slice_get}
+use Rattle.std.specs.Prelude.{◌≡◌, ℕ, suc, ◌+◌, ◌*◌, ◌^◌, ◌<◌, ◌≤◌, true, List, [], Option, Some}
+use Rattle.std.specs.Prelude.{None, length, slice_get}
 use Rattle.fk_tree.specs.View.{tree_of}
 use Rattle.fk_meaning_store.specs.View.{store_of}
 use Rattle.fk_meaning_state.specs.View.{setting_of}
 use Rattle.fk_meaning.specs.Processor.{Setting}
-use Rattle.fk_meaning.specs.Round.{State, Round, result, IsStopped}
+use Rattle.fk_meaning.specs.Round.{State, Round, result, is_possible, IsStopped}
 use Rattle.fk_meaning.specs.Schedule.{Schedule}
 use Rattle.fk_core.specs.declared.op.CoreOp.{CoreOp}
 use Rattle.fk_core.specs.Next.{Position, next}
@@ -16,10 +17,10 @@ use Rattle.fk_replay_schedules.specs.Paced.{IsPaced, ArePassed}
 use Rattle.fk_replay_steps.specs.Pace.{since}
 use Rattle.fk_replay_phases.specs.Actors.{fault_of}
 use Rattle.fk_replay_phases.specs.declared.phases.Fault.{Fault}
-use Rattle.fk_replay.specs.declared.run.Run.{Run}
-use Rattle.fk_replay.specs.Passed.{KnowsAbout}
-use Rattle.fk_replay.specs.Steady.{IsSteady}
-use Rattle.fk_replay.specs.Taken.{IsRun, state_of}
+use Rattle.fk_replay_run.specs.declared.run.Run.{Run}
+use Rattle.fk_replay_run.specs.Told.{KnowsAbout}
+use Rattle.fk_replay_run.specs.Steady.{IsSteady}
+use Rattle.fk_replay_run.specs.Runs.{IsRun, state_of}
 
 module _ (core : List CoreOp) (set : Setting) (schedule : Schedule) (first : State Position) where
   abbrev behind : ℕ → State Position
@@ -58,8 +59,13 @@ module _ (core : List CoreOp) (set : Setting) (schedule : Schedule) (first : Sta
   IsUnlawful (BadTrace line) = ⊥
   IsUnlawful Memory = Unit {0}
 
+  -- the first n rounds are possible
+  abbrev pub AreFirstPossible : (n : ℕ) → Type 0
+  AreFirstPossible n =
+      (m : ℕ) (round : Round) → m < n → slice_get schedule m ≡ Some round
+      → is_possible (next core) set round (behind m) ≡ true
+
   -- before each round that follows possible ones the state is steady
   abbrev pub AreSteady : Type 0
   AreSteady =
-      (n : ℕ) → ArePassed (next core) set schedule first n → (behind n).fault ≡ None
-      → IsSteady core set (behind n)
+      (n : ℕ) → AreFirstPossible n → (behind n).fault ≡ None → IsSteady core set (behind n)

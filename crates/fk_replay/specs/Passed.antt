@@ -1,20 +1,21 @@
 -- What becomes of a run and its pace in one round of a trace, and in rounds without acts.
-use Rattle.std.specs.Prelude.{◌≡◌, ℕ, suc, ◌<◌, ◌≤◌, Bool, true, false, ◌⊎◌, List, [], Option}
-use Rattle.std.specs.Prelude.{Some, None, is_some}
+use Rattle.std.specs.Prelude.{◌≡◌, ℕ, suc, ◌<◌, ◌≤◌, Bool, true, false, ◌⊎◌, List, Option}
+use Rattle.std.specs.Prelude.{Some, None}
 use Rattle.fk_meaning_state.specs.View.{setting_of}
-use Rattle.fk_meaning.specs.Round.{Round, is_possible, IsStopped}
+use Rattle.fk_meaning.specs.Round.{Round, is_possible, result, IsStopped}
 use Rattle.fk_core.specs.declared.op.CoreOp.{CoreOp}
-use Rattle.fk_core.specs.Next.{Position, next}
+use Rattle.fk_core.specs.Next.{next}
 use Rattle.fk_replay_text.specs.declared.fault.ReplayFault.{ReplayFault}
 use Rattle.fk_replay_text.specs.declared.fault.ReplayFault.TheVariants.{BadTrace, NotPossible}
 use Rattle.fk_replay_text.specs.declared.fault.ReplayFault.TheVariants.{Pace, Memory}
-use Rattle.fk_replay_schedules.specs.Paced.{Leaves, Begins}
-use Rattle.fk_replay_able.specs.Known.{KnowsAble}
+use Rattle.fk_replay_schedules.specs.Paced.{Leaves}
 use Rattle.fk_replay_steps.specs.Pace.{Absences, IsLeastLate, since}
 use Rattle.fk_replay_phases.specs.declared.phases.Fault.{Fault}
-use Rattle.fk_replay.specs.declared.run.Run.{Run}
-use Rattle.fk_replay.specs.Arrivals.{arrived_at}
-use Rattle.fk_replay.specs.Taken.{IsDone, IsStoppedBy, state_of}
+use Rattle.fk_replay_run.specs.declared.run.Run.{Run}
+use Rattle.fk_replay_run.specs.Steady.{IsSteady}
+use Rattle.fk_replay_run.specs.Told.{HasTold}
+use Rattle.fk_replay_take.specs.Taken.{IsDone, IsStoppedBy}
+use Rattle.fk_replay_run.specs.Runs.{state_of}
 
 -- ---- late rounds
 
@@ -43,50 +44,31 @@ TellsFirstLate absences behind last (BadTrace line) = ⊥
 TellsFirstLate absences behind last (NotPossible at) = ⊥
 TellsFirstLate absences behind last Memory = ⊥
 
--- ---- who could act
-
-abbrev pub is_able : Absences → (processor : ℕ) → Bool
-is_able absences h = is_some (since absences h)
-
-module _ (core : List CoreOp) where
-  -- it is known who could act, but for what is changed by those who are still to come
-  abbrev pub KnowsAbout : Run → (coming : List ℕ) → Type 0
-  KnowsAbout run coming =
-      KnowsAble (next core) (state_of run) coming (is_able run.pace) (arrived_at run.arrived.items)
-
-  -- all those who could act before a round are told
-  pub record HasTold (round : ℕ) (old new : Run) : Type 0 where
-    pub kept : new ≡ record old { pace = new.pace; arrived = new.arrived }
-    pub begins : Begins (next core) (setting_of old.setting) (state_of old) round
-        (since old.pace) (since new.pace)
-    pub knows : KnowsAbout new []
-
 -- ---- one round
 
+-- if the round is possible, the state behind it is steady
+abbrev pub IsSteadyBehind : List CoreOp → Round → Run → Type 0
+IsSteadyBehind core round old =
+    is_possible (next core) (setting_of old.setting) round (state_of old) ≡ true
+    → IsSteady core (setting_of old.setting)
+    (result (next core) (setting_of old.setting) round (state_of old))
+
 module _ (core : List CoreOp) (round : Round) (number : ℕ) (is_last : Bool) (old : Run) where
-  -- the round was done
-  pub record IsPassed (new : Run) : Type 0 where
-    pub done : Run
-    pub is : IsDone core round old done
+  -- the round was done, or is the last one and was stopped by a fault
+  abbrev pub HasTaken : Run → Option Fault → Type 0
+  HasTaken new None = IsDone core round old new
+  HasTaken new (Some fault) = (is_last ≡ true) × IsStoppedBy core round old new fault
+
+  -- then those who were in it left. It is late for nobody, and unless it is the last one it was told
+  -- who could act after it
+  pub record HasPassed (new : Run) (fault : Option Fault) : Type 0 where
+    pub mid : Run
+    pub taken : HasTaken mid fault
     pub left : Absences
     pub leaves : Leaves round (since old.pace) (since left)
     pub on_time : IsLeastLate left number None
-    pub told : is_last ≡ false → HasTold core (suc number) (record done { pace = left }) new
-    pub last : is_last ≡ true → new ≡ record done { pace = left }
-
-  -- the round is the last one, and stopped by a fault
-  pub record IsPassedWith (fault : Fault) (new : Run) : Type 0 where
-    pub last : is_last ≡ true
-    pub stopped : Run
-    pub is : IsStoppedBy core round old stopped fault
-    pub left : Absences
-    pub leaves : Leaves round (since old.pace) (since left)
-    pub on_time : IsLeastLate left number None
-    pub new_is : new ≡ record stopped { pace = left }
-
-  abbrev pub HasPassed : Run → Option Fault → Type 0
-  HasPassed new None = IsPassed new
-  HasPassed new (Some fault) = IsPassedWith fault new
+    pub told : is_last ≡ false → HasTold core (suc number) (record mid { pace = left }) new
+    pub last : is_last ≡ true → new ≡ record mid { pace = left }
 
   -- the round is possible, or is the last one and stopped
   abbrev pub IsGood : Type 0
@@ -94,6 +76,13 @@ module _ (core : List CoreOp) (round : Round) (number : ℕ) (is_last : Bool) (o
       (is_possible (next core) (setting_of old.setting) round (state_of old) ≡ true)
       ⊎ ((is_last ≡ true)
       × IsStopped (next core) (setting_of old.setting) round (state_of old))
+
+  -- why it wasn't taken
+  abbrev pub IsUntaken : ReplayFault → Type 0
+  IsUntaken (NotPossible at) = (at ≡ number) × (IsGood → ⊥)
+  IsUntaken (Pace at h) = ⊥
+  IsUntaken (BadTrace line) = ⊥
+  IsUntaken Memory = Unit {0}
 
   pub record IsTooLate (h : ℕ) : Type 0 where
     pub good : IsGood

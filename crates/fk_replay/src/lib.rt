@@ -4,12 +4,8 @@
 //! and how the run ends.
 #![tactic(auto)]
 
-mod able;
 mod end;
-mod enlist;
 mod replay;
-mod rounds;
-mod run;
 #[cfg(test)]
 mod tests;
 

@@ -11,20 +11,21 @@ ghost use Rattle.fk_replay_schedules.specs.Paced.{Leaves};
 ghost use Rattle.fk_replay_schedules.specs.Moments.{AreMoments};
 ghost use Rattle.fk_replay_steps.specs.Pace.{IsLeastLate, since};
 ghost use Rattle.fk_replay_phases.specs.Present.{present, numbers_of};
-ghost use Rattle.fk_replay.specs.Ranges.{AreRanges};
-ghost use Rattle.fk_replay.specs.Steady.{IsSteady};
-ghost use Rattle.fk_replay.specs.Taken.{IsRun, state_of};
-ghost use Rattle.fk_replay.specs.Passed.{TellsLate, AreOnTime, TellsFirstLate, KnowsAbout};
-ghost use Rattle.fk_replay.specs.Passed.{HasPassed, IsRefused};
+ghost use Rattle.fk_replay_take.specs.Ranges.{AreRanges};
+ghost use Rattle.fk_replay_run.specs.Steady.{IsSteady};
+ghost use Rattle.fk_replay_run.specs.Runs.{IsRun, state_of};
+ghost use Rattle.fk_replay.specs.Passed.{TellsLate, AreOnTime, TellsFirstLate};
+ghost use Rattle.fk_replay_run.specs.Told.{KnowsAbout};
+ghost use Rattle.fk_replay.specs.Passed.{HasTaken, IsUntaken, HasPassed, IsRefused, IsSteadyBehind};
 ghost use Rattle.fk_replay.specs.Followed.{AreSteady, HasDone, HasFollowed, IsUnlawful};
 ghost use Rattle.fk_replay.specs.Replay.{IsOfText, IsOrderly, IsSafe, IsAnswer, schedule_in};
 
-use crate::end::Replayed;
-use crate::rounds::Outcome;
-use crate::run::Run;
+use crate::end::{Replayed, end_of};
 use fk_core::CoreOp;
 use fk_replay_phases::{Acting, Fault};
+use fk_replay_run::Run;
 use fk_replay_steps::Pace;
+use fk_replay_take::{Outcome, take_round};
 use fk_replay_text::{Acts, ReplayFault, Trace};
 use std::alloc::{AllocError, Global};
 
@@ -55,7 +56,8 @@ fn pass_empty(pace: &Pace, behind: u32, last: u32) -> Result<(), ReplayFault>
 
 /// Those who are in a round are no longer absent.
 fn leave(acting: &[Acting], pace: &mut Pace)
-    ensures { (round : Round) → numbers_of acting.now ≡ present 0 round
+    ensures many { length pace.new ≡ length pace.old }
+    ensures leaves { (round : Round) → numbers_of acting.now ≡ present 0 round
         → Leaves round (since pace.old) (since pace.new) }
 {
     for member in acting {
@@ -63,7 +65,34 @@ fn leave(acting: &[Acting], pace: &mut Pace)
     }
 }
 
-/// A round, with its fault if it is stopped.
+/// A round, with its fault if it is the last one and stopped.
+fn do_round(
+    run: &mut Run,
+    ops: &[CoreOp],
+    round: u32,
+    acts: &[Acts],
+    is_last: bool,
+) -> Result<Option<Fault>, ReplayFault>
+    requires few { length ops.now < 2 ^ 32 }
+    requires run { IsRun run.old }
+    requires ranges { AreRanges (processors run.old.tree) (map range_of acts.now) }
+    requires steady { IsSteady ops.now (setting_of run.old.setting) (state_of run.old) }
+    requires given { (tree_of run.old.tree).given + 2 ^ 28 < 2 ^ 63 }
+    requires arrived { length run.old.arrived.items ≡ processors run.old.tree }
+    ensures taken { IfOk result (HasTaken ops.now
+        (round_of (processors run.old.tree) (map range_of acts.now)) round is_last
+        run.old run.new) }
+    ensures refused { IfErr result (IsUntaken ops.now
+        (round_of (processors run.old.tree) (map range_of acts.now)) round is_last run.old) }
+{
+    match take_round(run, ops, acts)? {
+        Outcome::Possible => Ok(None),
+        Outcome::Stopped(fault) if is_last => Ok(Some(fault)),
+        Outcome::Stopped(_) | Outcome::NotPossible => Err(ReplayFault::NotPossible(round)),
+    }
+}
+
+/// A round that is late for nobody. Unless it is the last one, it is told who could act after it.
 fn pass_round(
     run: &mut Run,
     ops: &[CoreOp],
@@ -75,7 +104,9 @@ fn pass_round(
     requires run { IsRun run.old }
     requires ranges { AreRanges (processors run.old.tree) (map range_of acts.now) }
     requires steady { IsSteady ops.now (setting_of run.old.setting) (state_of run.old) }
-    requires given { (tree_of run.old.tree).given + 2 ^ 28 ≤ 2 ^ 63 }
+    requires behind { IsSteadyBehind ops.now
+        (round_of (processors run.old.tree) (map range_of acts.now)) run.old }
+    requires given { (tree_of run.old.tree).given + 2 ^ 28 < 2 ^ 63 }
     requires knows { KnowsAbout ops.now run.old [] }
     requires round { is_last ≡ false → round + 1 < 2 ^ 32 }
     ensures passed { IfOk result (HasPassed ops.now
@@ -84,12 +115,7 @@ fn pass_round(
     ensures refused { IfErr result (IsRefused ops.now
         (round_of (processors run.old.tree) (map range_of acts.now)) round is_last run.old) }
 {
-    let fault = match run.take_round(ops, acts)? {
-        Outcome::NotPossible => return Err(ReplayFault::NotPossible(round)),
-        Outcome::Stopped(fault) if is_last => Some(fault),
-        Outcome::Stopped(_) => return Err(ReplayFault::NotPossible(round)),
-        Outcome::Possible => None,
-    };
+    let fault = do_round(run, ops, round, acts, is_last)?;
     leave(&run.acting, &mut run.pace);
     on_time(&run.pace, round)?;
     if !is_last {
@@ -166,6 +192,6 @@ pub fn replay_list(
     let output = copied(alloc, run.store.output())?;
     Ok(Replayed {
         output,
-        end: run.end(ops, fault),
+        end: end_of(ops, &run.actors, fault),
     })
 }

@@ -1,15 +1,13 @@
 -- What is known when a processor in memory comes to its next operation.
-use Rattle.std.proofs.Common.{◌≡◌, ◌≢◌, ◌⊎◌, inl, inr, ℕ, zero, suc, ◌+◌, ◌<◌, ◌≤◌, ◌==◌, ◌^◌, ◌||◌, Bool, true, false, true≢false, List, [], ◌∷◌, length, map, set, slice_get, Option, Some, None, is_some, refl, sym, ap, ◌∙◌, subst, arith, if◌then◌else◌}
+use Rattle.std.proofs.Common.{◌≡◌, ◌≢◌, ℕ, suc, ◌+◌, ◌<◌, ◌≤◌, ◌^◌, Bool, true, false, true≢false, List, [], ◌∷◌, length, map, set, slice_get, Option, Some, None, is_some, refl, sym, ap, ◌∙◌, subst, arith}
 use Rattle.std.proofs.Math.Path.{fun_ext}
-use Rattle.std.proofs.lemmas.Bool.{cases_eq}
-use Rattle.std.proofs.lemmas.Option.{slice_get_within}
 use Rattle.fk_meaning_operation.specs.declared.kinds.Joint.{Joint}
-use Rattle.fk_meaning_operation.specs.declared.kinds.Joint.TheVariants.{Resuming}
+use Rattle.fk_meaning_operation.specs.declared.kinds.Joint.TheVariants.{Alone, Starting, AtBarrier, Closing, Resuming}
 use Rattle.fk_tree.specs.declared.node.Kind.{Kind}
 use Rattle.fk_tree.specs.Tree as t
 use Rattle.fk_tree.specs.Tree.{Tree, is_member}
 use Rattle.fk_meaning.specs.Processor.{Setting}
-use Rattle.fk_meaning.specs.Round.{Runner, State, joint_due, same_joint, lowest}
+use Rattle.fk_meaning.specs.Round.{Runner, State, joint_due, lowest}
 use Rattle.fk_core.specs.declared.op.CoreOp.{CoreOp}
 use Rattle.fk_core.specs.Next.{Position, next, landing}
 use Rattle.fk_lockstep.proofs.Rounds.{map_at}
@@ -21,11 +19,12 @@ use Rattle.fk_replay_phases.specs.declared.actor.Actor.{Actor}
 use Rattle.fk_replay_phases.specs.Modes.{HaveModes}
 use Rattle.fk_replay_able.specs.Able.{waits_for_none, step_of, step_at, joint_before}
 use Rattle.fk_replay_able.specs.Known.{with_one, with_all, is_free, KnowsAble, CountsOne, Arrives}
-use Rattle.fk_replay_able.proofs.Able.{same_is, same_self}
+use Rattle.fk_replay_able.proofs.Able.{alone_free}
 use Rattle.fk_replay_able.proofs.Arrivals.{arrivals_know_able}
 use Rattle.fk_replay_arrivals.specs.declared.arrived.Arrived.{Arrived}
-use Rattle.fk_replay_arrivals.specs.Arrived.{number_in, number_for, arrived_in, is_known, HasNumber, HaveBegun, AreOf, KnowsBehind}
-use Rattle.fk_replay_arrivals.proofs.Begun.{BeginsOne, set_here, set_there}
+use Rattle.fk_replay_arrivals.specs.Arrived.{number_in, number_for, arrived_in, is_known, is_counted, HasOneMore, HaveBegun, AreOf, KnowsBehind}
+use Rattle.fk_replay_arrivals.proofs.Begun.{BeginsOne}
+use Rattle.fk_replay_arrivals.proofs.Counting.{IsSetAt, is_set}
 
 module _ (core : List CoreOp) (tree : Tree) (actors : List Actor) (h : ℕ) (a : Actor) (at : slice_get actors h ≡ Some a) (modes : HaveModes tree actors) (joint : Joint)
     (joint_is : joint_due (next core (position_of a.runner)) ≡ joint) where
@@ -83,43 +82,18 @@ module _ (core : List CoreOp) (tree : Tree) (actors : List Actor) (h : ℕ) (a :
       (arriving set s of coming (is_known pace) (arrived_in arrived) stands knows).awaits (before_is set s of ∙ resume) (free_by set s of false waits) (ready_is set s of ∙ off)
 
   -- the lowest member counts one more, if there is room for it
-  pub record CountsAt (old new : List Arrived) : Type 0 where
-    pub one : arrived_in new (lowest (t.members tree (tree.places h))) joint ≡ suc (arrived_in old (lowest (t.members tree (tree.places h))) joint)
-    pub same : (g : ℕ) (k : Joint) → ((g ≡ lowest (t.members tree (tree.places h))) × (k ≡ joint) → ⊥) → arrived_in new g k ≡ arrived_in old g k
-
-  -- so it does if its numbers are replaced by those with one more
-  pub counts_set : (was : List Arrived) (x y : Arrived) (number : ℕ) → slice_get was (lowest (t.members tree (tree.places h))) ≡ Some x → HasNumber joint number x y
-      → number ≡ suc (number_in joint x) → CountsAt was (set was (lowest (t.members tree (tree.places h))) y)
-  counts_set was x y number there has number_is = record {
-    one =
-        ap (number_for joint) (set_here was (lowest (t.members tree (tree.places h))) y (slice_get_within was (lowest (t.members tree (tree.places h))) x there))
-        ∙ has joint ∙ ap (λ (b : Bool). if b then number else number_in joint x) (same_self joint) ∙ number_is
-        ∙ sym (ap (λ (o : Option Arrived). suc (number_for joint o)) there);
-    same = λ g k other. by g k other (cases_eq g (lowest (t.members tree (tree.places h))));
-  }
-    where
-      apart : (k : Joint) → (k ≡ joint → ⊥) → (b : Bool) → same_joint k joint ≡ b → same_joint k joint ≡ false
-      apart k ne false e = e
-      apart k ne true e = absurd (ne (sym (same_is k joint e)))
-
-      by : (g : ℕ) (k : Joint) → ((g ≡ lowest (t.members tree (tree.places h))) × (k ≡ joint) → ⊥) → (g ≡ lowest (t.members tree (tree.places h))) ⊎ (g ≡ lowest (t.members tree (tree.places h)) → ⊥)
-          → arrived_in (set was (lowest (t.members tree (tree.places h))) y) g k ≡ arrived_in was g k
-      by g k other (inr ne) = ap (number_for k) (set_there was (lowest (t.members tree (tree.places h))) g y ne)
-      by g k other (inl is) =
-          ap (λ (i : ℕ). arrived_in (set was (lowest (t.members tree (tree.places h))) y) i k) is
-          ∙ ap (number_for k) (set_here was (lowest (t.members tree (tree.places h))) y (slice_get_within was (lowest (t.members tree (tree.places h))) x there))
-          ∙ has k ∙ ap (λ (b : Bool). if b then number else number_in k x) (apart k (λ e. other (is, e)) (same_joint k joint) refl)
-          ∙ sym (ap (number_for k) there) ∙ sym (ap (λ (i : ℕ). arrived_in was i k) is)
+  abbrev pub CountsAt : (old new : List Arrived) → Type 0
+  CountsAt old new = IsSetAt (lowest (t.members tree (tree.places h))) joint (suc (arrived_in old (lowest (t.members tree (tree.places h))) joint)) old new
 
   module _ (set : Setting) (s : State Position) (of : AreOf tree actors s) (coming : List ℕ) (able : ℕ → Bool) (old new : List Arrived) (counts : CountsAt old new) where
     counts_one : CountsOne (next core) s h coming able (arrived_in old) (arrived_in new)
     counts_one = record {
       one =
           ap (λ (k : Joint). arrived_in new (lowest (t.members s.tree (s.tree.places h))) k) (before_is set s of)
-          ∙ ap (λ (ms : List ℕ). arrived_in new (lowest ms) joint) (members_are set s of) ∙ counts.one
+          ∙ ap (λ (ms : List ℕ). arrived_in new (lowest ms) joint) (members_are set s of) ∙ counts.here
           ∙ sym (ap (λ (ms : List ℕ). suc (arrived_in old (lowest ms) joint)) (members_are set s of))
           ∙ sym (ap (λ (k : Joint). suc (arrived_in old (lowest (t.members s.tree (s.tree.places h))) k)) (before_is set s of));
-      same = λ g k other. counts.same g k (λ x. other (x.0 ∙ sym (ap lowest (members_are set s of)), x.1 ∙ sym (before_is set s of)));
+      same = λ g k other. counts.kept g k (λ x. other (x.0 ∙ sym (ap lowest (members_are set s of)), x.1 ∙ sym (before_is set s of)));
     }
 
     number_now : arrived_in new (lowest (t.members s.tree (s.tree.places h))) (joint_before (next core) s h) ≡ arrived_in new (lowest (t.members tree (tree.places h))) joint
@@ -157,3 +131,38 @@ module _ (core : List CoreOp) (tree : Tree) (actors : List Actor) (h : ℕ) (a :
       (arriving set s of coming (is_known pace) (arrived_in was) stands knows).waits (arrived_in is) (λ e. other (sym (before_is set s of) ∙ e)) (free_by set s of false waits)
       (counts_one set s of coming (is_known pace) was is (counts room))
       (λ e. part room (sym (number_now set s of coming (is_known pace) was is (counts room)) ∙ e ∙ ap (λ (ms : List ℕ). length ms) (members_are set s of)))
+
+  -- ---- one more is counted
+
+  counted : Waits false → joint ≢ Resuming → is_counted joint ≡ true
+  counted waits other = by joint refl
+    where
+      by : (j : Joint) → joint ≡ j → is_counted j ≡ true
+      by Starting e = refl
+      by AtBarrier e = refl
+      by Closing e = refl
+      by Resuming e = absurd (other e)
+      by Alone e = absurd (true≢false (sym (alone_free (t.kind tree (tree.places h))) ∙ sym (ap (waits_for_none (t.kind tree (tree.places h))) e) ∙ sym (waits (t.kind tree (tree.places h)) (modes.each h a at))))
+
+  module _ (was : List Arrived) (x y : Arrived) (come : ℕ) (there : slice_get was (lowest (t.members tree (tree.places h))) ≡ Some x)
+      (one : is_counted joint ≡ true → number_in joint x + 1 < 2 ^ 32 → HasOneMore joint come x y) (other : joint ≢ Resuming) (waits : Waits false) (room : length (t.members tree (tree.places h)) < 2 ^ 32) where
+    abbrev changed : List Arrived
+    changed = set was (lowest (t.members tree (tree.places h))) y
+
+    one_more : Few was → HasOneMore joint come x y
+    one_more few_was = one (counted waits other) (let same = ap (number_for joint) there in omega (arith, few_was, same, room))
+
+    counts_more : Few was → CountsAt was changed
+    counts_more few_was = subst (λ (n : ℕ). IsSetAt (lowest (t.members tree (tree.places h))) joint n was changed)
+        ((one_more few_was).number_is ∙ ap (λ (o : Option Arrived). suc (number_for joint o)) (sym there))
+        (is_set was (lowest (t.members tree (tree.places h))) x y joint come there (one_more few_was).one)
+
+    come_is : Few was → arrived_in changed (lowest (t.members tree (tree.places h))) joint ≡ come
+    come_is few_was = (is_set was (lowest (t.members tree (tree.places h))) x y joint come there (one_more few_was).one).here
+
+    pub last_comes : (coming : List ℕ) (round : ℕ) (old new : Absences) → come ≡ length (t.members tree (tree.places h)) → HaveBegun (t.members tree (tree.places h)) round old new
+        → KnowsBehind core tree actors (h ∷ coming) coming old new was changed
+    last_comes coming round old new all begins = last_known coming round old new was changed other waits counts_more (λ few_was. come_is few_was ∙ all) begins
+
+    pub one_comes : (coming : List ℕ) (pace : Absences) → (come ≡ length (t.members tree (tree.places h)) → ⊥) → KnowsBehind core tree actors (h ∷ coming) coming pace pace was changed
+    one_comes coming pace part = waits_known coming pace was changed other waits counts_more (λ few_was e. part (sym (come_is few_was) ∙ e))

@@ -1,12 +1,16 @@
 -- Who becomes known to be able.
-use Rattle.std.proofs.Common.{◌≡◌, ◌⊎◌, inl, inr, ℕ, zero, suc, ◌<◌, ◌==◌, ◌||◌, Bool, true, false, true≢false, List, [], ◌∷◌, length, set, slice_get, take, Option, Some, None, is_some, refl, sym, ap, ◌∙◌, subst, arith, if◌then◌else◌}
+use Rattle.std.proofs.Common.{◌≡◌, ◌⊎◌, inl, inr, ℕ, zero, suc, ◌+◌, ◌<◌, ◌≤◌, ◌==◌, ◌||◌, Bool, true, false, true≢false, List, [], ◌∷◌, length, set, slice_get, take, Option, Some, None, is_some, refl, sym, ap, ◌∙◌, subst, arith, if◌then◌else◌}
+use Rattle.std.specs.Prelude.{slice_index}
 use Rattle.std.proofs.lemmas.Bool.{eqb-true, eq-eqb, ne_eqb, cases_eq}
+use Rattle.std.proofs.lemmas.List.{take_all}
+use Rattle.std.proofs.lemmas.Option.{slice_get-get_or}
 use Rattle.fk_tree.specs.Tree.{is_member}
 use Rattle.fk_replay_steps.specs.Pace.{Absences, if_there, since, begun}
+use Rattle.fk_replay_phases.specs.Present.{AreBelow}
 use Rattle.fk_replay_arrivals.specs.Arrived.{is_known, HaveBegun, BecomesKnown}
 
 -- one element is replaced
-set_length : {A : Type 0} (xs : List A) (i : ℕ) (x : A) → length (set xs i x) ≡ length xs
+pub set_length : {A : Type 0} (xs : List A) (i : ℕ) (x : A) → length (set xs i x) ≡ length xs
 set_length [] i x = refl
 set_length (y ∷ xs) zero x = refl
 set_length (y ∷ xs) (suc i) x = ap (λ (n : ℕ). suc n) (set_length xs i x)
@@ -23,12 +27,32 @@ set_there (y ∷ xs) zero (suc j) x ne = refl
 set_there (y ∷ xs) (suc i) zero x ne = refl
 set_there (y ∷ xs) (suc i) (suc j) x ne = set_there xs i j x (λ e. ne (ap (λ (n : ℕ). suc n) e))
 
+-- nobody becomes known, or some do after others
+pub becomes_none : (round : ℕ) (a : Absences) → BecomesKnown round a a
+becomes_none round a = record {
+  many = refl;
+  kept = λ m first is. is;
+  begun = λ m first none is. absurd (let bad : None ≡ Some first = sym none ∙ is in cc);
+}
+
+pub becomes_both : (round : ℕ) (a b c : Absences) → BecomesKnown round a b → BecomesKnown round b c → BecomesKnown round a c
+becomes_both round a b c one two = record {
+  many = two.many ∙ one.many;
+  kept = λ m first is. two.kept m first (one.kept m first is);
+  begun = λ m first none is. by m first none (since b m) refl is;
+}
+  where
+    by : (m first : ℕ) → since a m ≡ None → (x : Option ℕ) → since b m ≡ x → since c m ≡ Some first → first ≡ round
+    by m first none None e is = two.begun m first e is
+    by m first none (Some f) e is =
+        let same : Some first ≡ Some f = sym is ∙ two.kept m f e in
+        let is_first : first ≡ f = cc in
+        is_first ∙ one.begun m f none e
+
 -- what one beginning does
 pub record BeginsOne (h round : ℕ) (old new : Absences) : Type 0 where
-  pub many : length new ≡ length old
+  pub becomes : BecomesKnown round old new
   pub known : (m : ℕ) → is_known new m ≡ ((m == h) || is_known old m)
-  pub kept : (m first : ℕ) → since old m ≡ Some first → since new m ≡ Some first
-  pub begun : (m first : ℕ) → since old m ≡ None → since new m ≡ Some first → first ≡ round
 
 pub begins_one : (a : Absences) (h round : ℕ) → h < length a → BeginsOne h round a (begun a h round)
 begins_one a h round lt = by (since a h) refl
@@ -57,19 +81,16 @@ begins_one a h round lt = by (since a h) refl
     begins m first (inr ne) none is = absurd (let bad : None ≡ Some first = sym none ∙ sym (there m ne) ∙ is in cc)
 
     unchanged : (first : ℕ) → since a h ≡ Some first → BeginsOne h round a a
-    unchanged first e = record {
-      many = refl;
-      known = λ m. was first e m (m == h) refl;
-      kept = λ m f is. is;
-      begun = λ m f none is. absurd (let bad : None ≡ Some f = sym none ∙ is in cc);
-    }
+    unchanged first e = record { becomes = becomes_none round a; known = λ m. was first e m (m == h) refl }
 
     changed : since a h ≡ None → BeginsOne h round a (set a h (Some round))
     changed none = record {
-      many = set_length a h (Some round);
+      becomes = record {
+        many = set_length a h (Some round);
+        kept = λ m first is. keeps none m first (cases_eq m h) is;
+        begun = λ m first e is. begins m first (cases_eq m h) e is;
+      };
       known = λ m. now_known m (cases_eq m h);
-      kept = λ m first is. keeps none m first (cases_eq m h) is;
-      begun = λ m first e is. begins m first (cases_eq m h) e is;
     }
 
     by : (x : Option ℕ) → since a h ≡ x → BeginsOne h round a (begun a h round)
@@ -78,12 +99,7 @@ begins_one a h round lt = by (since a h) refl
 
 -- one after the other
 pub none_begin : (round : ℕ) (a : Absences) → HaveBegun [] round a a
-none_begin round a = record {
-  many = refl;
-  known = λ m. refl;
-  kept = λ m first is. is;
-  begun = λ m first none is. absurd (let bad : None ≡ Some first = sym none ∙ is in cc);
-}
+none_begin round a = record { becomes = becomes_none round a; known = λ m. refl }
 
 or_assoc : (x y z : Bool) → (y || (x || z)) ≡ ((x || y) || z)
 or_assoc true true z = refl
@@ -104,29 +120,20 @@ member_more (x ∷ ms) (suc i) h m at = ap (λ (b : Bool). (m == x) || b) (membe
     assoc true b c = refl
     assoc false b c = refl
 
-pub begins_more : (ms : List ℕ) (i h round : ℕ) (old now : Absences) → slice_get ms i ≡ Some h → h < length now → HaveBegun (take i ms) round old now
-    → HaveBegun (take (suc i) ms) round old (begun now h round)
-begins_more ms i h round old now at lt so_far = record {
-  many = one.many ∙ so_far.many;
+pub begins_more : (ms : List ℕ) (i round : ℕ) (old now : Absences) → i < length ms → AreBelow (length old) ms → HaveBegun (take i ms) round old now
+    → HaveBegun (take (i + 1) ms) round old (begun now (slice_index ms i) round)
+begins_more ms i round old now low below so_far = subst (λ (n : ℕ). HaveBegun (take n ms) round old (begun now h round)) (let e : suc i ≡ i + 1 = omega arith in e) (record {
+  becomes = becomes_both round old now (begun now h round) so_far.becomes one.becomes;
   known = λ m.
       one.known m ∙ ap (λ (b : Bool). (m == h) || b) (so_far.known m) ∙ or_assoc (is_member m (take i ms)) (m == h) (is_known old m)
-      ∙ sym (ap (λ (b : Bool). b || is_known old m) (member_more ms i h m at));
-  kept = λ m first is. one.kept m first (so_far.kept m first is);
-  begun = λ m first none is. by m first none (since now m) refl is;
-}
+      ∙ sym (ap (λ (b : Bool). b || is_known old m) (member_more ms i h m (slice_get-get_or ms i 0 low)));
+})
   where
+    h : ℕ
+    h = slice_index ms i
+
     one : BeginsOne h round now (begun now h round)
-    one = begins_one now h round lt
+    one = begins_one now h round (let lt = below.each i low in let many = so_far.becomes.many in omega (arith, lt, many))
 
-    by : (m first : ℕ) → since old m ≡ None → (x : Option ℕ) → since now m ≡ x → since (begun now h round) m ≡ Some first → first ≡ round
-    by m first none None e is = one.begun m first e is
-    by m first none (Some f) e is =
-        let same : Some first ≡ Some f = sym is ∙ one.kept m f e in
-        let is_first : first ≡ f = cc in
-        is_first ∙ so_far.begun m f none e
-
-pub take_all : (ms : List ℕ) (i : ℕ) → i ≡ length ms → take i ms ≡ ms
-take_all [] zero e = refl
-take_all [] (suc i) e = absurd (omega arith)
-take_all (m ∷ ms) zero e = absurd (omega arith)
-take_all (m ∷ ms) (suc i) e = ap (λ (xs : List ℕ). m ∷ xs) (take_all ms i (omega arith))
+pub begins_all : (ms : List ℕ) (i round : ℕ) (old now : Absences) → length ms ≤ i → HaveBegun (take i ms) round old now → HaveBegun ms round old now
+begins_all ms i round old now all so_far = subst (λ (xs : List ℕ). HaveBegun xs round old now) (take_all i ms all) so_far

@@ -77,12 +77,16 @@ pub record HaveForgotten (acting : List Acting) (actors : List Actor) (old new :
   pub kept : (h : ℕ) (joint : Joint) → (IsDoneBy acting actors h joint → ⊥)
       → arrived_in new h joint ≡ arrived_in old h joint
 
--- some processors could act from a round on. Who could act before is known since the same round
-pub record HaveBegun (members : List ℕ) (round : ℕ) (old new : Absences) : Type 0 where
+-- who wasn't known becomes known from a round on
+pub record BecomesKnown (round : ℕ) (old new : Absences) : Type 0 where
   pub many : length new ≡ length old
-  pub known : (m : ℕ) → is_known new m ≡ (is_member m members || is_known old m)
   pub kept : (m first : ℕ) → since old m ≡ Some first → since new m ≡ Some first
   pub begun : (m first : ℕ) → since old m ≡ None → since new m ≡ Some first → first ≡ round
+
+-- some processors could act from a round on. Who could act before is known since the same round
+pub record HaveBegun (members : List ℕ) (round : ℕ) (old new : Absences) : Type 0 where
+  pub becomes : BecomesKnown round old new
+  pub known : (m : ℕ) → is_known new m ≡ (is_member m members || is_known old m)
 
 -- the processors of a state are in memory
 pub record AreOf (tree : t.Tree) (actors : List Actor) (s : State Position) : Type 0 where
@@ -97,9 +101,3 @@ KnowsBehind core tree actors before after old new was is =
     → StandsInTree (next core) (λ w. landing core w.at) set s
     → KnowsAble (next core) s before (is_known old) (arrived_in was)
     → KnowsAble (next core) s after (is_known new) (arrived_in is)
-
--- who wasn't known becomes known from a round on
-pub record BecomesKnown (round : ℕ) (old new : Absences) : Type 0 where
-  pub many : length new ≡ length old
-  pub kept : (m first : ℕ) → since old m ≡ Some first → since new m ≡ Some first
-  pub begun : (m first : ℕ) → since old m ≡ None → since new m ≡ Some first → first ≡ round

@@ -2,6 +2,7 @@
 
 ghost use Rattle.std.specs.Prelude.{◌≡◌, ℕ, ◌<◌, List, [], ◌∷◌, length, Option};
 ghost use Rattle.fk_tree.specs.declared.node.Kind.{Kind};
+ghost use Rattle.fk_tree.specs.Tree.{below};
 ghost use Rattle.fk_tree.specs.View.{tree_of, processors};
 ghost use Rattle.fk_replay_rounds.specs.Modes.{mode_of};
 ghost use Rattle.fk_replay_phases.specs.Modes.{HaveModes};
@@ -12,7 +13,7 @@ ghost use Rattle.fk_replay_arrivals.specs.Arrived.{HaveBegun, BecomesKnown, Know
 use crate::arrived::{Arrived, one_more};
 use fk_core::CoreOp;
 use fk_meaning_operation::Joint;
-use fk_replay_phases::{Acting, Actor, joint_of};
+use fk_replay_phases::{Acting, Actor, acting_in, joint_of};
 use fk_replay_rounds::Mode;
 use fk_replay_steps::Pace;
 use fk_tree::Tree;
@@ -39,17 +40,9 @@ fn begin_all(members: &[u32], round: u32, pace: &mut Pace)
     }
 }
 
-/// The lowest of some members, or 0.
-fn lowest_of(members: &[u32]) -> u32 {
-    match members.first() {
-        Some(member) => *member,
-        None => 0,
-    }
-}
-
 /// A processor comes to its next operation, before a round. All its members could act from this
 /// round on if it is the last of those who meet for a joint operation.
-pub fn arrive(
+fn arrive(
     ops: &[CoreOp],
     tree: &Tree,
     actors: &[Actor],
@@ -77,15 +70,39 @@ pub fn arrive(
         pace.begin(number, round);
         return;
     }
-    let node = tree.node_of(number);
-    let members = tree.members(node);
-    let meets = if joint == Joint::Resuming {
-        tree.ready(node) && !pace.is_able(number)
-    } else {
-        one_more(joint, &mut arrived[lowest_of(members) as usize]) as usize == members.len()
-    };
-    if meets {
+    let place = acting_in(tree, number);
+    let members = tree.members(place.node);
+    if joint == Joint::Resuming {
+        if tree.ready(place.node) && !pace.is_able(number) {
+            begin_all(members, round, pace);
+        }
+        return;
+    }
+    let come = one_more(joint, &mut arrived[place.lowest as usize]);
+    if come as usize == members.len() {
         begin_all(members, round, pace);
+    }
+}
+
+/// All processors come to their first operations, before the first round.
+pub fn tell_first(
+    ops: &[CoreOp],
+    tree: &Tree,
+    actors: &[Actor],
+    pace: &mut Pace,
+    arrived: &mut Vec<Arrived>,
+)
+    requires actors { length actors.now ≡ processors tree.now }
+    requires pace { length pace.old ≡ processors tree.now }
+    requires arrived { length arrived.old.items ≡ processors tree.now }
+    requires modes { HaveModes (tree_of tree.now) actors.now }
+    ensures begun { BecomesKnown 1 pace.old pace.new }
+    ensures many { length arrived.new.items ≡ length arrived.old.items }
+    ensures known { KnowsBehind ops.now (tree_of tree.now) actors.now
+        (below (processors tree.now) []) [] pace.old pace.new arrived.old.items arrived.new.items }
+{
+    for number in 0..actors.len() as u32 {
+        arrive(ops, tree, actors, number, 1, pace, arrived);
     }
 }
 

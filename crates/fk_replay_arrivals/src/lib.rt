@@ -4,5 +4,5 @@
 mod arrivals;
 mod arrived;
 
-pub use arrivals::{arrive, tell};
+pub use arrivals::{tell, tell_first};
 pub use arrived::{Arrived, forget_all};

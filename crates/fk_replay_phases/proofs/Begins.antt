@@ -1,6 +1,7 @@
 -- Processors that begin a round.
-use Rattle.std.proofs.Common.{◌≡◌, ℕ, zero, suc, ◌+◌, ◌<◌, ◌≤◌, Bool, true, false, ◌&&◌, List, [], ◌∷◌, length, get_or, set, drop, map, Option, Some, None, ap, refl, sym, ◌∙◌, subst, arith}
+use Rattle.std.proofs.Common.{◌≡◌, ℕ, zero, suc, ◌+◌, ◌<◌, ◌≤◌, Bool, true, false, ◌&&◌, List, [], ◌∷◌, length, get_or, set, drop, Some, None, ap, refl, sym, ◌∙◌, subst, arith}
 use Rattle.std.specs.Prelude.{slice_index, slice_get, option_map}
+use Rattle.std.proofs.lemmas.Option.{slice_get-map}
 use Rattle.fk_meaning.specs.Processor.{Setting}
 use Rattle.fk_meaning.specs.Round as rounds
 use Rattle.fk_meaning.specs.Round.{Round, may_act, all_may_act, asking, is_local_next, are_local, after_one, after_locals}
@@ -9,12 +10,12 @@ use Rattle.fk_core.specs.Next.{Position, next}
 use Rattle.fk_replay_steps.specs.Steps.{step_at, callers_of, runner_of}
 use Rattle.fk_replay_phases.specs.Safe.{IsAbout, IsSafeRunner, AreSafe}
 use Rattle.fk_replay_phases.specs.Present.{present, numbers_of}
-use Rattle.fk_replay_phases.specs.Actors.{IsDue, CanBeAsked, CanAllBeAsked, acting_of, actings_of, runners_of, modes_of, asked, BeganAs, HasBegun, HaveBegun, HaveNone, HasDoneOne, HasDoneLocals}
+use Rattle.fk_replay_phases.specs.Actors.{CanBeAsked, acting_of, actings_of, runners_of, modes_of, asked, BeganAs, HasBegun, HaveBegun, HaveNone, HasDoneOne, HasDoneLocals}
 use Rattle.fk_replay_phases.specs.declared.acting.Acting.{Acting}
 use Rattle.fk_replay_phases.specs.declared.actor.Actor.{Actor}
 use Rattle.fk_replay_steps.specs.declared.list.Due.{Due}
 use Rattle.fk_replay_steps.specs.declared.runner.Runner.{Runner}
-use Rattle.fk_replay_phases.proofs.Present.{IsNextActing, next_acting, none_acting}
+use Rattle.fk_replay_phases.proofs.Present.{next_acting, none_acting}
 use Rattle.fk_replay_phases.proofs.Sparse.{SoFar, begun, more, at_end}
 
 module _ (core : List CoreOp) (setting : Setting) where
@@ -98,10 +99,32 @@ module _ (core : List CoreOp) (setting : Setting) where
   pub begins_first : (round : Round) (acting : List Acting) (old : List Actor) → numbers_of acting ≡ present 0 round → BeginsAt round acting old 0 old
   begins_first round acting old numbers = record { n = 0; ahead = sym numbers; so = begun (Began round old) old }
 
-  pub begins_more : (round : Round) (acting : List Acting) (old now : List Actor) (i : ℕ) (x : Acting) (a new : Actor) → BeginsAt round acting old i now → HaveNone old → length round ≡ length old
-      → i < length acting → x ≡ get_or acting i x → slice_get now x.number ≡ Some a → HasBegun core setting (slice_index round x.number) a new true
+  -- what is known of the next one
+  pub record BeginsNext (round : Round) (now : List Actor) (h : ℕ) : Type 0 where
+    pub within : h < length round
+    pub high : h < length now
+    pub some : 1 ≤ slice_index round h
+    pub untaken : (a : Actor) → slice_get now h ≡ Some a → a.taken ≡ None
+    pub safe : (a : Actor) → slice_get now h ≡ Some a → IsSafeRunner core setting (runner_of a.runner)
+
+  pub begins_next : (round : Round) (acting : List Acting) (old now : List Actor) (i : ℕ) (x : Acting) → BeginsAt round acting old i now → HaveNone old → AreSafe core setting (runners_of old)
+      → length round ≡ length old → i < length acting → x ≡ get_or acting i x → BeginsNext round now x.number
+  begins_next round acting old now i x at none safe many lt is =
+      let next = (next_acting round at.n acting i x at.ahead lt is).next.1 in
+      let before : slice_get now x.number ≡ slice_get old x.number = at.so.rest x.number next.low in
+      record {
+        within = next.high;
+        high = let high = next.high in let all = at.so.many in omega arith;
+        some = next.some;
+        untaken = λ a here. none.none x.number a (sym before ∙ here);
+        safe = λ a here. safe.each x.number (runner_of a.runner) (slice_get-map (λ (y : Actor). runner_of y.runner) old x.number ∙ ap (option_map (λ (y : Actor). runner_of y.runner)) (sym before ∙ here));
+      }
+
+  pub begins_more : (round : Round) (acting : List Acting) (old now : List Actor) (i : ℕ) (x : Acting) (a new : Actor) (can : Bool) → BeginsAt round acting old i now → HaveNone old → length round ≡ length old
+      → i < length acting → x ≡ get_or acting i x → slice_get now x.number ≡ Some a → HasBegun core setting (slice_index round x.number) a new can → can ≡ true
       → BeginsAt round acting old (i + 1) (set now x.number new)
-  begins_more round acting old now i x a new at none many lt is here has =
+  begins_more round acting old now i x a new can at none many lt is here tells holds =
+      let has : HasBegun core setting (slice_index round x.number) a new true = subst (HasBegun core setting (slice_index round x.number) a new) holds tells in
       let ahead = next_acting round at.n acting i x at.ahead lt is in
       record {
         n = suc x.number;
@@ -180,14 +203,14 @@ module _ (core : List CoreOp) (setting : Setting) where
       and_false true = refl
       and_false false = refl
 
-  pub begins_not : (round : Round) (acting : List Acting) (old now new : List Actor) (i : ℕ) (x : Acting) (a b : Actor) → BeginsAt round acting old i now
-      → i < length acting → x ≡ get_or acting i x → slice_get now x.number ≡ Some a → HasBegun core setting (slice_index round x.number) a b false
+  pub begins_not : (round : Round) (acting : List Acting) (old now new : List Actor) (i : ℕ) (x : Acting) (a b : Actor) (can : Bool) → BeginsAt round acting old i now
+      → i < length acting → x ≡ get_or acting i x → slice_get now x.number ≡ Some a → HasBegun core setting (slice_index round x.number) a b can → can ≡ false
       → HaveBegun core setting round old new false
-  begins_not round acting old now new i x a b at lt is here has =
+  begins_not round acting old now new i x a b can at lt is here has not =
       let ahead = next_acting round at.n acting i x at.ahead lt is in
       let there : slice_get old x.number ≡ Some a = sym (at.so.rest x.number ahead.next.1.low) ∙ here in
       record {
-        whether = sym (one_not round old x.number a there ahead.next.1.high (sym has.whether));
+        whether = sym (one_not round old x.number a there ahead.next.1.high (sym has.whether ∙ not));
         begun = λ e. absurd (let bad : false ≡ true = e in cc);
         modes = λ e. absurd (let bad : false ≡ true = e in cc);
         asks = λ e. absurd (let bad : false ≡ true = e in cc);

@@ -1,10 +1,10 @@
 -- The counts of those who act are removed, one after the other.
-use Rattle.std.proofs.Common.{◌≡◌, ◌≢◌, ℕ, zero, suc, ◌+◌, ◌<◌, ◌≤◌, ◌⊎◌, inl, inr, List, [], ◌∷◌, length, get_or, set, drop, ap, refl, sym, ◌∙◌, arith}
+use Rattle.std.proofs.Common.{◌≡◌, ◌≢◌, ℕ, zero, suc, ◌+◌, ◌<◌, ◌≤◌, ◌⊎◌, inl, inr, List, [], ◌∷◌, length, get_or, set, drop, ap, refl, ◌∙◌, arith}
 use Rattle.std.specs.Prelude.{slice_index}
 use Rattle.std.proofs.lemmas.List.{length-set}
 use Rattle.fk_replay_phases.specs.Present.{AreNone, present, numbers_of}
 use Rattle.fk_replay_phases.specs.declared.acting.Acting.{Acting}
-use Rattle.fk_replay_phases.proofs.Present.{IsNextActing, next_acting, none_acting}
+use Rattle.fk_replay_phases.proofs.Present.{next_acting, none_acting}
 
 index_set : (xs : List ℕ) (i c : ℕ) → i < length xs → slice_index (set xs i c) i ≡ c
 index_set [] i c lt = absurd (let z : ⊥ = omega arith in z)
@@ -25,9 +25,6 @@ module _ (acting : List Acting) (old : List ℕ) where
     pub many : length now ≡ length old
     pub done : (h : ℕ) → h < n → slice_index now h ≡ 0
     pub rest : (h : ℕ) → n ≤ h → slice_index now h ≡ slice_index old h
-
-  pub dismisses_first : numbers_of acting ≡ present 0 old → DismissesAt 0 old
-  dismisses_first numbers = record { n = 0; ahead = sym numbers; many = refl; done = λ h lt. absurd (let z : ⊥ = omega arith in z); rest = λ h le. refl }
 
   pub dismisses_within : (i : ℕ) (now : List ℕ) (x : Acting) → DismissesAt i now → i < length acting → x ≡ get_or acting i x → x.number < length now
   dismisses_within i now x at lt is =

@@ -1,21 +1,18 @@
 -- Those who act, one after the other, fit to the lowest members of their nodes.
-use Rattle.std.proofs.Common.{◌≡◌, ℕ, zero, suc, ◌+◌, ◌<◌, ◌≤◌, Bool, true, false, ◌⊎◌, inl, inr, List, [], ◌∷◌, length, get_or, drop, map, Option, Some, None, ap, refl, sym, ◌∙◌, subst, arith}
-use Rattle.std.specs.Prelude.{slice_index, slice_get}
+use Rattle.std.proofs.Common.{◌≡◌, ℕ, suc, ◌+◌, ◌<◌, ◌≤◌, Bool, true, false, ◌⊎◌, inl, inr, List, [], ◌∷◌, length, get_or, drop, map, ap, refl, sym, ◌∙◌, subst, arith}
+use Rattle.std.specs.Prelude.{slice_index}
 use Rattle.fk_tree.specs.Tree as t
 use Rattle.fk_tree.specs.Tree.{Tree}
 use Rattle.fk_meaning_operation.specs.declared.kinds.Joint.{Joint}
 use Rattle.fk_meaning.specs.Round.{Round}
 use Rattle.fk_replay_rounds.specs.Modes.{mode_of}
-use Rattle.fk_replay_rounds.specs.Fits.{fits_by, all_fit_below, AreThere, FitByLowest}
+use Rattle.fk_replay_rounds.specs.Fits.{fits_by, all_fit_below, AreThere}
 use Rattle.fk_replay_rounds.proofs.Fitting.{tell}
 use Rattle.fk_replay_phases.specs.Present.{present, numbers_of, acting_at, all_acting}
 use Rattle.fk_replay_phases.specs.declared.acting.Acting.{Acting}
-use Rattle.fk_replay_phases.proofs.Present.{IsNextActing, next_acting, none_acting}
+use Rattle.fk_replay_phases.proofs.Present.{next_acting, none_acting}
 
 module _ (round : Round) (last : ℕ) (joint : ℕ → Joint) (tree : Tree) (p : ℕ) (acting : List Acting) where
-  abbrev Fits : ℕ → Type 0
-  Fits h = fits_by round last joint tree h (tree.places h) (mode_of (t.kind tree (tree.places h))) ≡ true
-
   pub record FitsAt (i : ℕ) : Type 0 where
     pub n : ℕ
     pub ahead : present n (drop n round) ≡ numbers_of (drop i acting)
@@ -70,6 +67,11 @@ module _ (round : Round) (last : ℕ) (joint : ℕ → Joint) (tree : Tree) (p :
           let ahead = next_acting round at.n acting i x at.ahead lt is in
           let fits = ((tell round last joint tree p there).back e).each x.number ahead.next.1.some in
           absurd (let bad : false ≡ true = sym misfit ∙ fits in cc)
+
+  -- whether a processor fits, told at its node
+  pub fits_at : (x : Acting) (b : Bool) → x ≡ acting_at tree x.number → b ≡ fits_by round last joint tree x.number x.node (mode_of (t.kind tree x.node))
+      → b ≡ fits_by round last joint tree x.number (tree.places x.number) (mode_of (t.kind tree (tree.places x.number)))
+  fits_at x b is tells = tells ∙ ap (λ (n : ℕ). fits_by round last joint tree x.number n (mode_of (t.kind tree n))) (ap (λ (y : Acting). y.node) is)
 
   -- what is known of the next one
   pub next_number : (i : ℕ) (x : Acting) → FitsAt i → i < length acting → x ≡ get_or acting i x → AreThere round last joint tree p → (x.number < p) × (x.number ≤ last)

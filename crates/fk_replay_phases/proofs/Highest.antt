@@ -1,5 +1,5 @@
 -- The last of some numbers, and members of nodes.
-use Rattle.std.proofs.Common.{◌≡◌, ℕ, zero, suc, ◌+◌, ◌-◌, ◌<◌, ◌≤◌, Bool, true, false, ◌||◌, List, [], ◌∷◌, length, get_or, ap, refl, sym, ◌∙◌, subst, arith}
+use Rattle.std.proofs.Common.{◌≡◌, ℕ, zero, suc, ◌-◌, ◌<◌, Bool, true, false, ◌||◌, List, [], ◌∷◌, length, get_or, ap, refl, sym, ◌∙◌, subst, arith}
 use Rattle.std.specs.Prelude.{◌==◌, slice_index}
 use Rattle.fk_tree.specs.Tree as t
 use Rattle.fk_tree.specs.Tree.{Tree, is_member}
@@ -48,18 +48,9 @@ lowest_in : (xs : List ℕ) (h : ℕ) → is_member h xs ≡ true → is_member 
 lowest_in [] h is = is
 lowest_in (x ∷ xs) h is = self_in x xs
 
-highest_in : (xs : List ℕ) (h : ℕ) → is_member h xs ≡ true → is_member (highest xs) xs ≡ true
-highest_in [] h is = is
-highest_in (x ∷ []) h is = self_in x []
-highest_in (x ∷ y ∷ ys) h is = later_in (highest (y ∷ ys)) x (y ∷ ys) (highest_in (y ∷ ys) y (self_in y ys))
-
 pub lowest_below : (p h : ℕ) (tree : Tree) → IsSound p tree → h < p → lowest (t.members tree (tree.places h)) < p
 lowest_below p h tree sound lt =
     sound.within (tree.places h) (lowest (t.members tree (tree.places h))) (lowest_in (t.members tree (tree.places h)) h (sound.placed h lt).member)
-
-pub highest_below : (p h : ℕ) (tree : Tree) → IsSound p tree → h < p → highest (t.members tree (tree.places h)) < p
-highest_below p h tree sound lt =
-    sound.within (tree.places h) (highest (t.members tree (tree.places h))) (highest_in (t.members tree (tree.places h)) h (sound.placed h lt).member)
 
 -- the lowest member of the node of one who acts
 pub acting_low : (p : ℕ) (tree : Tree) (x : Acting) → IsSound p tree → x.number < p → x ≡ acting_at tree x.number → x.lowest < p

@@ -3,7 +3,8 @@ pub mod Sparse
 pub mod Begins
 pub mod Starts
 pub mod Requests
-pub mod Asking
 pub mod Fitting
 pub mod Emptied
 pub mod Highest
+pub mod Few
+pub mod Joining

@@ -1,11 +1,13 @@
 -- The phase of requests, of which only those who have taken an operation have a part.
-use Rattle.std.proofs.Common.{◌≡◌, ℕ, zero, suc, ◌+◌, ◌<◌, ◌≤◌, Bool, true, false, List, [], ◌∷◌, length, get_or, set, drop, map, Option, Some, None, ap, refl, sym, ◌∙◌, subst, arith}
+use Rattle.std.proofs.Common.{◌≡◌, ℕ, zero, suc, ◌+◌, ◌<◌, ◌≤◌, Bool, true, ◌⊎◌, inl, inr, List, [], ◌∷◌, length, get_or, set, drop, map, Option, Some, None, ap, refl, sym, ◌∙◌, subst, arith}
 use Rattle.std.specs.Prelude.{slice_index, slice_get, option_map, if◌then◌else◌}
+use Rattle.std.proofs.lemmas.List.{length-map, length-reverse, length-set}
+use Rattle.std.proofs.lemmas.Option.{slice_get-map}
 use Rattle.fk_meaning_operation.specs.Kinds.{class_of}
 use Rattle.fk_meaning_operation.specs.declared.kinds.Class.{Class}
-use Rattle.fk_meaning_operation.specs.declared.kinds.Class.TheVariants.{Local, Request, Tree}
+use Rattle.fk_meaning_operation.specs.declared.kinds.Class.TheVariants.{Tree}
 use Rattle.fk_meaning_store.specs.Store.{Store}
-use Rattle.fk_meaning_state.specs.View.{processor_of}
+use Rattle.fk_meaning_state.specs.View.{processor_of, call_of}
 use Rattle.fk_meaning.specs.Group.{has_room}
 use Rattle.fk_meaning.specs.Round as rounds
 use Rattle.fk_meaning.specs.Round.{Round, Step, Phase, Passes, Breaks, Phases, all_requests, after_phase, before_others, do_request, request_phase}
@@ -14,13 +16,13 @@ use Rattle.fk_core.specs.Next.{Position}
 use Rattle.fk_replay_steps.specs.Steps.{step_at, callers_of, runner_of}
 use Rattle.fk_replay_rounds.specs.Own.{IsOwn, AreOwn}
 use Rattle.fk_replay_phases.specs.Present.{present, numbers_of}
-use Rattle.fk_replay_phases.specs.Actors.{acting_of, actings_of, due_of, runners_of, modes_of, AreInRound, CanBeAsked, CanAllBeAsked, IsReady, AreReady, HasPassed, HasBroken, HaveAsked, fault_of}
+use Rattle.fk_replay_phases.specs.Actors.{acting_of, actings_of, due_of, runners_of, modes_of, AreInRound, CanBeAsked, CanAllBeAsked, IsReady, HasPassed, HasBroken, HasAsked, HaveAsked, fault_of}
 use Rattle.fk_replay_phases.specs.declared.acting.Acting.{Acting}
 use Rattle.fk_replay_phases.specs.declared.actor.Actor.{Actor}
 use Rattle.fk_replay_steps.specs.declared.list.Due.{Due}
 use Rattle.fk_replay_phases.specs.declared.phases.Fault as code
-use Rattle.fk_replay_phases.proofs.Present.{IsNextActing, next_acting, none_acting}
-use Rattle.fk_replay_phases.proofs.Sparse.{SoFar, begun, below, more, at_end}
+use Rattle.fk_replay_phases.proofs.Present.{next_acting, none_acting}
+use Rattle.fk_replay_phases.proofs.Sparse.{SoFar, begun, below, more, at_end, get_set, get_set_other}
 
 module _ (core : List CoreOp) where
   tree_passes : (s : Store) (a : rounds.Acting Position) (step : Step Position) (class : Class) → class ≡ Tree → has_room step.operation a.runner.has ≡ true → do_request s a class step ≡ Passes s a
@@ -47,9 +49,6 @@ module _ (core : List CoreOp) where
     where
       no : (due : Due) → a.taken ≡ Some due → ⊥
       no due e = cc
-
-  abbrev Ready : List Actor → ℕ → Type 0
-  Ready now h = (g : ℕ) (y : Actor) → g < h → slice_get now g ≡ Some y → IsReady core y
 
   -- one passes behind others that are ready
   pub pass_one : (n h : ℕ) (now : List Actor) (a new : Actor) (s s' : Store) → slice_get now h ≡ Some a → ((g : ℕ) (y : Actor) → g < h → slice_get now g ≡ Some y → IsReady core y)
@@ -124,10 +123,39 @@ module _ (core : List CoreOp) where
       let ahead = next_acting at.in_round.round at.n acting i x at.ahead lt is in
       below (Passed old) old at.in_round.round (free acting old at.in_round) at.n x.number now at.so ahead.next.1.none g y low there
 
-  pub asks_more : (acting : List Acting) (old now : List Actor) (first s s' : Store) (i : ℕ) (x : Acting) (a new : Actor) → AsksAt acting old first i now s
-      → i < length acting → x ≡ get_or acting i x → slice_get now x.number ≡ Some a → HasPassed core s s' a new
+  -- what is known of the next one
+  pub record AsksNext (many : ℕ) (now : List Actor) (h : ℕ) : Type 0 where
+    pub high : h < length now
+    pub own : (a : Actor) → slice_get now h ≡ Some a → a.runner.processor.number < many
+    pub calls : (a : Actor) → slice_get now h ≡ Some a → length a.runner.processor.callers.items < 256
+    pub can : (a : Actor) → slice_get now h ≡ Some a → CanBeAsked core a
+
+  pub asks_next : (many : ℕ) (acting : List Acting) (old now : List Actor) (first s : Store) (i : ℕ) (x : Acting) → AsksAt acting old first i now s → length old ≡ many → AreOwn (runners_of old)
+      → CanAllBeAsked core old → i < length acting → x ≡ get_or acting i x → AsksNext many now x.number
+  asks_next many acting old now first s i x at all own can lt is =
+      let next = (next_acting at.in_round.round at.n acting i x at.ahead lt is).next.1 in
+      let before : slice_get now x.number ≡ slice_get old x.number = at.so.rest x.number next.low in
+      let high : x.number < length old = let z = next.high in let y = at.in_round.many in omega arith in
+      record {
+        high = let z = at.so.many in omega arith;
+        own = λ a here. let number = (is_own a (sym before ∙ here)).number in omega arith;
+        calls = λ a here.
+            let calls = (is_own a (sym before ∙ here)).calls in
+            let turned = length-reverse (map call_of a.runner.processor.callers.items) in
+            let same = length-map a.runner.processor.callers.items call_of in
+            omega (arith, calls, turned, same);
+        can = λ a here. can.each x.number a (sym before ∙ here);
+      }
+    where
+      is_own : (a : Actor) → slice_get old x.number ≡ Some a → IsOwn x.number (processor_of a.runner.processor)
+      is_own a there =
+          own.each x.number (runner_of a.runner) (slice_get-map (λ (y : Actor). runner_of y.runner) old x.number ∙ ap (option_map (λ (y : Actor). runner_of y.runner)) there)
+
+  pub asks_more : (acting : List Acting) (old now : List Actor) (first s s' : Store) (i : ℕ) (x : Acting) (a new : Actor) (fault : Option ℕ) → AsksAt acting old first i now s
+      → i < length acting → x ≡ get_or acting i x → slice_get now x.number ≡ Some a → HasAsked core s s' a new fault → fault ≡ None
       → AsksAt acting old first (i + 1) (set now x.number new) s'
-  asks_more acting old now first s s' i x a new at lt is here has =
+  asks_more acting old now first s s' i x a new fault at lt is here tells none =
+      let has : HasPassed core s s' a new = subst (HasAsked core s s' a new) none tells in
       let round = at.in_round.round in
       let ahead = next_acting round at.n acting i x at.ahead lt is in
       let within : x.number < length now = let high = ahead.next.1.high in let all = at.so.many in let many = at.in_round.many in omega arith in
@@ -160,13 +188,13 @@ module _ (core : List CoreOp) where
       record {
         phase = at.same ∙ pass_all 0 now s (λ g y there. (passed g y there).ready);
         ready = λ e. record { each = λ h y there. (passed h y there).ready };
-        modes = λ e. all_modes old now at.so.many (λ h x is a there. (passed h x is).mode a there);
+        modes = all_modes old now at.so.many (λ h x is a there. (passed h x is).mode a there);
       }
 
-  pub asks_break : (acting : List Acting) (old now : List Actor) (first s s' : Store) (i : ℕ) (x : Acting) (a new : Actor) (fault : code.Fault) → AsksAt acting old first i now s
-      → i < length acting → x ≡ get_or acting i x → slice_get now x.number ≡ Some a → HasBroken core s s' a new fault.site → fault.processor ≡ x.number
+  pub asks_break : (acting : List Acting) (old now : List Actor) (first s s' : Store) (i : ℕ) (x : Acting) (a new : Actor) (fault : code.Fault) (site : Option ℕ) → AsksAt acting old first i now s
+      → i < length acting → x ≡ get_or acting i x → slice_get now x.number ≡ Some a → HasAsked core s s' a new site → site ≡ Some fault.site → fault.processor ≡ x.number
       → HaveAsked core first s' old (set now x.number new) (Some fault)
-  asks_break acting old now first s s' i x a new fault at lt is here has who =
+  asks_break acting old now first s s' i x a new fault site at lt is here tells there_is who =
       let stays : actings_of core (set now x.number new) ≡ actings_of core now = same_actings now x.number here in
       record {
         phase = at.same ∙ break_one 0 x.number now a s fault.site here (λ g y low there. (before acting old now first s i x at lt is g y low there).ready) has.breaks
@@ -174,9 +202,30 @@ module _ (core : List CoreOp) where
             ∙ ap (λ st. record { store = st; acting = actings_of core now; fault = Some (fault_of core fault) }) (sym has.store)
             ∙ ap (λ (ys : List (rounds.Acting Position)). record { store = s'; acting = ys; fault = Some (fault_of core fault) }) (sym stays);
         ready = λ e. absurd (let bad : Some fault ≡ None = e in cc);
-        modes = λ e. absurd (let bad : Some fault ≡ None = e in cc);
+        modes = all_modes old (set now x.number new) (length-set now x.number new ∙ at.so.many) (λ h y there b from. mode h y there b from (place h x.number));
       }
     where
+      has : HasBroken core s s' a new fault.site
+      has = subst (HasAsked core s s' a new) there_is tells
+
+      place : (h g : ℕ) → (h < g) ⊎ ((h ≡ g) ⊎ (g < h))
+      place h g = grind arith
+
+      mode : (h : ℕ) (y : Actor) → slice_get (set now x.number new) h ≡ Some y → (b : Actor) → slice_get old h ≡ Some b → (h < x.number) ⊎ ((h ≡ x.number) ⊎ (x.number < h)) → y.mode ≡ b.mode
+      mode h y there b from (inl low) = (before acting old now first s i x at lt is h y low (sym (get_set_other now x.number h new (λ e. omega arith)) ∙ there)).mode b from
+      mode h y there b from (inr (inl e)) =
+          let next = (next_acting at.in_round.round at.n acting i x at.ahead lt is).next.1 in
+          let within : x.number < length now = let high = next.high in let all = at.so.many in let many = at.in_round.many in omega arith in
+          let y_is : Some y ≡ Some new = sym there ∙ ap (slice_get (set now x.number new)) e ∙ get_set now x.number new within in
+          let b_is : Some b ≡ Some a = sym from ∙ ap (slice_get old) e ∙ sym (at.so.rest x.number next.low) ∙ here in
+          let mode_is = has.mode in
+          cc
+      mode h y there b from (inr (inr high)) =
+          let next = (next_acting at.in_round.round at.n acting i x at.ahead lt is).next.1 in
+          let low = next.low in
+          let same : Some y ≡ Some b = sym there ∙ get_set_other now x.number h new (λ e. omega arith) ∙ at.so.rest h (omega arith) ∙ from in
+          cc
+
       same_actings : (ys : List Actor) (h : ℕ) → slice_get ys h ≡ Some a → actings_of core (set ys h new) ≡ actings_of core ys
       same_actings [] h e = refl
       same_actings (y ∷ ys) zero e = let y_is : y ≡ a = cc in ap (λ z. z ∷ actings_of core ys) (has.actor ∙ ap (acting_of core) (sym y_is))

@@ -1,5 +1,5 @@
 -- A processor begins a round, operation by operation.
-use Rattle.std.proofs.Common.{◌≡◌, ◌≢◌, ℕ, zero, suc, ◌+◌, ◌-◌, ◌<◌, ◌≤◌, Bool, true, false, ◌&&◌, List, length, Option, Some, None, ap, refl, sym, ◌∙◌, subst, arith}
+use Rattle.std.proofs.Common.{◌≡◌, ◌≢◌, ℕ, zero, suc, ◌+◌, ◌-◌, ◌<◌, ◌≤◌, Bool, true, false, ◌&&◌, List, length, Some, None, ap, refl, sym, ◌∙◌, subst, arith}
 use Rattle.std.specs.Prelude.{nat_lt, option_map, is_some}
 use Rattle.fk_meaning_operation.specs.Kinds.{class_of}
 use Rattle.fk_meaning_operation.specs.declared.kinds.Class.{Class}
@@ -9,13 +9,12 @@ use Rattle.fk_meaning.specs.Round as rounds
 use Rattle.fk_meaning.specs.Round.{Step, Acting, taking, may_act, is_local_next, are_local, after_one, after_locals, local_phase}
 use Rattle.fk_core.specs.declared.op.CoreOp.{CoreOp}
 use Rattle.fk_core.specs.Next.{Position, next}
-use Rattle.fk_replay_rounds.specs.declared.mode.Mode.{Mode}
 use Rattle.fk_replay_steps.specs.Steps.{step_at, callers_of, runner_of, position_of}
 use Rattle.fk_replay_steps.specs.Served.{CanAsk}
 use Rattle.fk_meaning_state.specs.View.{processor_of}
 use Rattle.fk_replay_steps.specs.declared.list.Due.{Due}
 use Rattle.fk_replay_steps.specs.declared.runner.Runner.{Runner}
-use Rattle.fk_replay_phases.specs.Safe.{IsAbout, IsSafeRunner}
+use Rattle.fk_replay_phases.specs.Safe.{IsSafeRunner}
 use Rattle.fk_replay_phases.specs.Actors.{acting_of, asked, HasBegun, HasDoneOne, HasDoneLocals}
 use Rattle.fk_replay_phases.specs.declared.actor.Actor.{Actor}
 use Rattle.fk_replay_phases.proofs.Begins.{DoesLocals, does_one, does_none, does_all, does_first, safe_behind, free_asks}
@@ -65,23 +64,6 @@ module _ (core : List CoreOp) (setting : Setting) where
   with_count : (count k : ℕ) (old new : Actor) (can : Bool) → count ≡ suc k → HasBegun core setting (suc k) old new can → HasBegun core setting count old new can
   with_count count k old new can e has = subst (λ (c : ℕ). HasBegun core setting c old new can) (sym e) has
 
-  not_begun : (k : ℕ) (old new : Actor) → may_act (next core) setting (suc k) (runner_of old.runner) ≡ false → HasBegun core setting (suc k) old new false
-  not_begun k old new e = record {
-    whether = sym e;
-    begun = λ z. absurd (let bad : false ≡ true = z in cc);
-    mode = λ z. absurd (let bad : false ≡ true = z in cc);
-    asks = λ z. absurd (let bad : false ≡ true = z in cc);
-  }
-
-  pub cannot_do : (count : ℕ) (old new : Actor) (mid : Runner) (did : Bool) → 1 ≤ count → count ≤ 255 → HasDoneLocals core setting (count - 1) old.runner mid did → did ≡ false → HasBegun core setting count old new false
-  cannot_do count old new mid did some few has is =
-      let k : ℕ = count - 1 in
-      let one_more : count ≡ suc k = omega arith in
-      let none : are_local (next core) setting k (runner_of old.runner) ≡ false = sym has.whether ∙ is in
-      with_count count k old new false one_more (not_begun k old new
-      (ap (λ (b : Bool). (b && are_local (next core) setting k (runner_of old.runner)) && is_some (next core (after_locals (next core) setting k (runner_of old.runner)).left)) (few_of k (omega arith))
-      ∙ ap (λ (b : Bool). b && is_some (next core (after_locals (next core) setting k (runner_of old.runner)).left)) none))
-
   -- all but the last of the operations are done
   record Behind (count k : ℕ) (old : Actor) (mid : Runner) : Type 0 where
     one_more : count ≡ suc k
@@ -102,12 +84,6 @@ module _ (core : List CoreOp) (setting : Setting) where
       ap (λ (c : Bool). (c && are_local (next core) setting k (runner_of old.runner)) && is_some (next core (after_locals (next core) setting k (runner_of old.runner)).left)) b.few
       ∙ ap (λ (c : Bool). c && is_some (next core (after_locals (next core) setting k (runner_of old.runner)).left)) b.local
       ∙ ap (λ (q : rounds.Runner Position). is_some (next core q.left)) (sym b.is)
-
-  pub has_none : (count : ℕ) (old new : Actor) (mid : Runner) (did : Bool) → 1 ≤ count → count ≤ 255 → HasDoneLocals core setting (count - 1) old.runner mid did → did ≡ true
-      → None ≡ next core (position_of mid) → HasBegun core setting count old new false
-  has_none count old new mid did some few has e ended =
-      let b = behind count old mid did some few has e in
-      with_count count (count - 1) old new false b.one_more (not_begun (count - 1) old new (may_by count (count - 1) old mid b ∙ ap is_some (sym ended)))
 
   asked_by : (k : ℕ) (r q : rounds.Runner Position) → q ≡ after_locals (next core) setting k r → asked core setting (suc k) r ≡ local_phase (next core) setting (taking q (next core q.left)) (next core q.left)
   asked_by k r q e = ap (λ x. local_phase (next core) setting (taking x (next core x.left)) (next core x.left)) (sym e)

@@ -129,6 +129,7 @@ module _ (core : List CoreOp) where
     pub breaks : request_phase old (acting_of core before) (due_of core before) ≡ Breaks site
     pub store : new ≡ old
     pub actor : acting_of core after ≡ acting_of core before
+    pub mode : after.mode ≡ before.mode
 
   abbrev pub HasAsked : (old new : Store) (before after : Actor) → (site : Option ℕ) → Type 0
   HasAsked old new before after None = HasPassed old new before after
@@ -149,4 +150,4 @@ module _ (core : List CoreOp) where
       fault = option_map fault_of fault;
     }
     pub ready : fault ≡ None → AreReady after
-    pub modes : fault ≡ None → modes_of after ≡ modes_of before
+    pub modes : modes_of after ≡ modes_of before

@@ -1,6 +1,6 @@
 -- The moments so far are passed.
 use Rattle.fk_meaning_state.specs.View.{setting_of}
-use Rattle.fk_replay.specs.Taken.{state_of}
+use Rattle.fk_replay_run.specs.Runs.{state_of}
 use Rattle.fk_replay.proofs.Traces.{IsFollowing}
 use Rattle.fk_replay.proofs.replay.follow.Given as goal
 

@@ -18,8 +18,11 @@ loop-member-preserved c =
     rw c.end.ensures
     (leaves_more c.args.acting.now c.args.pace.now i c.loop-member.pace (get_or c.args.acting.now i nobody) c.loop-member.invariant lt (element c.args.acting.now i nobody lt))
 
-pub returns : goal.returns
-returns c = λ round numbers.
+pub returns-clause-many : goal.returns-clause-many
+returns-clause-many c = c.loop-member.invariant.many
+
+pub returns-clause-leaves : goal.returns-clause-leaves
+returns-clause-leaves c = λ round numbers.
     let all : c.loop-member.member-index ≡ length c.args.acting.now = omega arith in
     leaves_all c.args.acting.now c.args.pace.now c.loop-member.pace round
     (subst (λ (n : ℕ). LeavesAt c.args.acting.now c.args.pace.now n c.loop-member.pace) all c.loop-member.invariant) numbers

@@ -1,8 +1,8 @@
 -- One count after the other is removed.
-use Rattle.std.proofs.Common.{◌≡◌, ℕ, ◌<◌, ◌≤◌, List, length, get_or, subst, sym, arith}
+use Rattle.std.proofs.Common.{◌<◌, length, get_or, arith}
 use Rattle.fk_replay_phases.specs.declared.acting.Acting.{Acting}
 use Rattle.fk_replay_phases.proofs.Highest.{element}
-use Rattle.fk_replay_phases.proofs.Emptied.{DismissesAt, dismisses_within, dismisses_more, dismisses_end}
+use Rattle.fk_replay_phases.proofs.Emptied.{dismisses_within, dismisses_more, dismisses_end}
 use Rattle.fk_replay_phases.proofs.acting.dismiss.Goals as goal
 
 abbrev nobody : Acting

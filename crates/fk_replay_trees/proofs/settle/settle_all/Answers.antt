@@ -2,7 +2,7 @@ use Rattle.std.proofs.Common.{◌≡◌, ℕ, ◌+◌, ◌<◌, ◌≤◌, List,
 use Rattle.fk_tree.specs.View.{tree_of, processors}
 use Rattle.fk_replay_phases.specs.declared.acting.Acting.{Acting}
 use Rattle.fk_replay_phases.proofs.Highest.{element}
-use Rattle.fk_replay_trees.proofs.Members.{few_members}
+use Rattle.fk_replay_phases.proofs.Few.{few_members}
 use Rattle.fk_replay_trees.proofs.Settling.{Given, next_there, settles_end}
 use Rattle.fk_replay_trees.proofs.settle.settle_all.Goals as goal
 

@@ -1,0 +1,6 @@
+-- A processor has ended if it has no next operation.
+use Rattle.fk_replay.proofs.Ending.{none_of}
+use Rattle.fk_replay.proofs.end.has_ended.Goals as goal
+
+pub returns : goal.returns
+returns c = none_of _ _ _ c.due.ensures.due

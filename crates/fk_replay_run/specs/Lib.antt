@@ -1,0 +1,5 @@
+pub mod Runs
+pub mod Steady
+pub mod Arrivals
+pub mod Openings
+pub mod Told

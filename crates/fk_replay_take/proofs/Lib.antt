@@ -1,0 +1,12 @@
+pub mod Composed
+pub mod Facts
+pub mod Finishing
+pub mod Forgetting
+pub mod Knowing
+pub mod Known
+pub mod Last
+pub mod Places
+pub mod Ranges
+pub mod Served
+pub mod Stopping
+pub mod Taking
