@@ -14,7 +14,7 @@ use Rattle.fk_meaning.specs.Group.{changes, parts, part, stays, not_negative}
 use Rattle.fk_meaning.specs.Round.{Round, lowest}
 use Rattle.fk_replay_trees.specs.Changes.{Needs}
 
-eq_false : (a b : ℕ) → a ≢ b → (a == b) ≡ false
+pub eq_false : (a b : ℕ) → a ≢ b → (a == b) ≡ false
 eq_false a b ne = by (a == b) refl
   where
     by : (c : Bool) → (a == b) ≡ c → c ≡ false

@@ -26,7 +26,7 @@ use Rattle.fk_replay_phases.specs.Present.{present, numbers_of, acting_at}
 use Rattle.fk_replay_phases.specs.Actors.{acting_of, actings_of, due_of, runners_of, AreInRound}
 use Rattle.fk_replay_phases.proofs.Present.{IsNext, IsNextActing, next_acting, none_acting}
 use Rattle.fk_replay_trees.specs.Changes.{has_of, has_by, Needs, HaveParts, CanStep, CanChange}
-use Rattle.fk_replay_trees.proofs.Changing.{beside, stays_ended, gives_few, needs_still, IsAsBefore}
+use Rattle.fk_replay_trees.proofs.Changing.{eq_false, beside, stays_ended, gives_few, needs_still, IsAsBefore}
 
 -- the processor with a number, as the meaning finds it
 pub who_is : (core : List CoreOp) (actors : List Actor) (h : ℕ) → who (actings_of core actors) h ≡ has_of actors h
@@ -65,6 +65,17 @@ module _ (p : ℕ) (old : Tree) (acting : List acts.Acting) (actors : List Actor
     pub at_old : acting ≡ map (acting_at old) (numbers_of acting)
     pub own : AreOwn (runners_of actors)
     pub can : CanChange old actors
+
+  pub given_by : p ≤ 1024 → IsSound p old → length actors ≡ p → AreInRound acting actors → acting ≡ map (acting_at old) (numbers_of acting) → AreOwn (runners_of actors) → CanChange old actors → Given
+  given_by few sound many in_round at_old own can = record {
+    few = few;
+    sound = sound;
+    many = many;
+    in_round = in_round;
+    at_old = at_old;
+    own = own;
+    can = can;
+  }
 
   module _ (given : Given) where
     number_is : (h : ℕ) (a : Actor) → slice_get actors h ≡ Some a → (runner_of a.runner).has.number ≡ h
@@ -149,6 +160,18 @@ module _ (p : ℕ) (old : Tree) (acting : List acts.Acting) (actors : List Actor
     -- what is taken by the actor that is there
     pub taken_at : (h : ℕ) (other a : Actor) (due : Due) → slice_get actors h ≡ Some a → (get_or actors h other).taken ≡ Some due → a.taken ≡ Some due
     taken_at h other a due here taken = sym (ap (λ (x : Actor). x.taken) (get_or_from_slice_get actors h a other here)) ∙ taken
+
+    pub none_at : (h : ℕ) (other a : Actor) → slice_get actors h ≡ Some a → ((due : Due) → (get_or actors h other).taken ≡ Some due → ⊥) → a.taken ≡ None
+    none_at h other a here none = by a.taken refl
+      where
+        by : (taken : Option Due) → a.taken ≡ taken → a.taken ≡ None
+        by None e = e
+        by (Some due) e = absurd (none due (ap (λ (x : Actor). x.taken) (get_or_from_slice_get actors h a other here) ∙ e))
+
+    pub not_lowest : (i : ℕ) (x : acts.Acting) → i < length acting → x ≡ get_or acting i x → (x.number ≡ x.lowest → ⊥) → (x.number == lowest (t.members old (old.places x.number))) ≡ false
+    not_lowest i x lt is ne =
+        let lowest_at : x.lowest ≡ lowest (t.members old (old.places x.number)) = ap (λ (y : acts.Acting). y.lowest) (element i x lt is) in
+        eq_false x.number (lowest (t.members old (old.places x.number))) (λ e. ne (e ∙ sym lowest_at))
 
     -- nothing is changed by a member that isn't the lowest, or has nothing to do
     idle_by : (core : List CoreOp) (h : ℕ) (a : Actor) (tree : Tree) → (a.taken ≡ None) ⊎ ((h == lowest (t.members old (old.places h))) ≡ false)
