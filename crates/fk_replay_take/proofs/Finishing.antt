@@ -212,7 +212,7 @@ module _ (core : List CoreOp) (round : Round) (old now : Run) (x : IsAsked core 
       let k = known fits in
       let steps : NodesStep tree (tree_of new) (who A) k.does =
       subst (λ (n : t.Tree). NodesStep tree n (who A) k.does) (sym changed)
-      (nodes_step A tree p sound k.does k.may (length-map (acting_of core) after ∙ many) k.steps) in
+      (nodes_step A tree p sound k.does k.may (length-map after (acting_of core) ∙ many) k.steps) in
       modes_follow core tree after p sound many k (tree_of new) steps (served.have_modes tree old.actors.items after x.modes x.run.modes)
       (λ h a is. (own.each h (runner_of a.runner) (slice_get-map (λ (b : Actor). runner_of b.runner) after h ∙ ap (option_map (λ (b : Actor). runner_of b.runner)) is)).number)
 
@@ -224,8 +224,8 @@ module _ (core : List CoreOp) (round : Round) (old now : Run) (x : IsAsked core 
 
   settled_many : (new : Run) → HaveSettled core tree (tree_of new.tree) after new.actors.items → vec_len new.actors ≡ vec_len old.actors
   settled_many new settles =
-      let runners = sym (length-map (λ (b : Actor). runner_of b.runner) new.actors.items) ∙ ap length settles.runners
-      ∙ length_settled A tree (tree_of new.tree) A ∙ length-map (acting_of core) after ∙ many in
+      let runners = sym (length-map new.actors.items (λ (b : Actor). runner_of b.runner)) ∙ ap length settles.runners
+      ∙ length_settled A tree (tree_of new.tree) A ∙ length-map after (acting_of core) ∙ many in
       let new_held = new.actors.ok.0 in
       let all = x.run.actors in
       omega (arith, runners, new_held, all)
@@ -237,7 +237,7 @@ module _ (core : List CoreOp) (round : Round) (old now : Run) (x : IsAsked core 
     pub pace : new.pace ≡ now.pace
     pub acting : new.acting ≡ now.acting
     pub processors_same : processors new.tree ≡ processors now.tree
-    pub tree : tree_of new.tree ≡ all_changes A (tree_of now.tree) A (tree_of now.tree)
+    pub changed : tree_of new.tree ≡ all_changes A (tree_of now.tree) A (tree_of now.tree)
     pub given : (tree_of new.tree).given ≤ (tree_of now.tree).given + 2 ^ 28
     pub forgotten : HaveForgotten now.acting.items after now.arrived.items new.arrived.items
     pub settled : HaveSettled core tree (tree_of new.tree) after new.actors.items
@@ -247,7 +247,7 @@ module _ (core : List CoreOp) (round : Round) (old now : Run) (x : IsAsked core 
   finishes new fits y =
       is_done core round old new after x.run x.steady
       (subst (λ st. AreServed core set round s after (store_of st) None) (sym y.store) x.served) fits
-      (y.tree ∙ ap (λ (tree' : code_tree.Tree). all_changes A (tree_of tree') A (tree_of tree')) x.tree) y.settled
+      (y.changed ∙ ap (λ (tree' : code_tree.Tree). all_changes A (tree_of tree') A (tree_of tree')) x.tree) y.settled
       (record {
         same = y.setting ∙ x.setting;
         store = ap processors_of y.store ∙ x.store;

@@ -18,6 +18,7 @@ use Rattle.fk_replay_rounds.specs.Fits.{all_fit_below, AreThere}
 use Rattle.fk_replay_rounds.specs.Stops.{StopsTell}
 use Rattle.fk_replay_stops.proofs.Places.{same_length}
 use Rattle.fk_replay_stops.proofs.There.{faults_of_the_last_stop}
+use Rattle.fk_replay_steps.specs.Steps.{runner_of}
 use Rattle.fk_replay_phases.specs.declared.phases.Fault.{Fault}
 use Rattle.fk_replay_phases.specs.declared.actor.Actor.{Actor}
 use Rattle.fk_replay_phases.specs.Present.{present, numbers_of, all_acting}
@@ -34,8 +35,8 @@ use Rattle.fk_replay_take.proofs.Facts.{numbers_map, in_round_after, are_there}
 
 -- ---- lists of processors with the same modes
 
-modes_many : (xs ys : List Actor) → modes_of ys ≡ modes_of xs → length ys ≡ length xs
-modes_many xs ys e = sym (length-map (λ (a : Actor). a.mode) ys) ∙ ap length e ∙ length-map (λ (a : Actor). a.mode) xs
+pub modes_many : (xs ys : List Actor) → modes_of ys ≡ modes_of xs → length ys ≡ length xs
+modes_many xs ys e = sym (length-map ys (λ (a : Actor). a.mode)) ∙ ap length e ∙ length-map xs (λ (a : Actor). a.mode)
 
 pub have_modes : (tree : t.Tree) (xs ys : List Actor) → modes_of ys ≡ modes_of xs → HaveModes tree xs → HaveModes tree ys
 have_modes tree xs ys e modes = record { each = λ h y is. at 0 xs ys e h y is (λ k x found. modes.each k x found) }
@@ -66,7 +67,7 @@ module _ (core : List CoreOp) (round : Round) (old now : Run) (fault : Option Fa
   actors_many = let held = old.actors.ok.0 in let e = x.run.actors in omega (arith, held, e)
 
   pub runners_many : length s.runners ≡ processors old.tree
-  runners_many = length-map _ old.actors.items ∙ actors_many
+  runners_many = length-map old.actors.items (λ (a : Actor). runner_of a.runner) ∙ actors_many
 
   pub after_many : length now.actors.items ≡ processors old.tree
   after_many = modes_many old.actors.items now.actors.items x.modes ∙ actors_many
