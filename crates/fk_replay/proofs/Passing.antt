@@ -1,5 +1,6 @@
 -- What a round makes of a run and its pace.
-use Rattle.std.proofs.Common.{◌≡◌, ℕ, suc, Bool, true, false, true≢false, ◌⊎◌, inl, inr, List, Option, Some, None, refl, sym, ap, ◌∙◌, subst}
+use Rattle.std.proofs.Common.{◌≡◌, ℕ, suc, Bool, true, false, true≢false, ◌⊎◌, inl, inr, List, [], length, Option, Some, None, refl, sym, ap, ◌∙◌, subst}
+use Rattle.std.specs.Prelude.{Result, Ok, Err, IsErrAnd, IfErr}
 use Rattle.fk_meaning_state.specs.View.{setting_of}
 use Rattle.fk_meaning.specs.Processor.{Setting}
 use Rattle.fk_meaning.specs.Round.{State, Round}
@@ -18,7 +19,8 @@ use Rattle.fk_replay_run.specs.Steady.{IsSteady}
 use Rattle.fk_replay_run.specs.Runs.{IsRun, state_of}
 use Rattle.fk_replay_take.specs.Taken.{IsDone, IsStoppedBy, IsNeither}
 use Rattle.fk_replay.specs.Passed.{TellsLate, HasTaken, HasPassed, IsUntaken, IsGood, IsRefused, IsSteadyBehind}
-use Rattle.fk_replay_run.specs.Told.{HasTold}
+use Rattle.fk_replay_run.specs.Told.{HasTold, KnowsAbout}
+use Rattle.fk_replay_take.proofs.Knowing.{knows_about}
 
 -- the same parts, but for the pace and for who has arrived
 pub same_run : (run new : Run) → new ≡ record run { pace = new.pace; arrived = new.arrived } → IsRun run → IsRun new
@@ -32,6 +34,11 @@ same_run run new e x = subst IsRun (sym e) (record {
   modes = x.modes;
   own = x.own;
 })
+
+-- a reason is passed on as it is
+pub passes_on : {A : Type 0} (P : ReplayFault → Type 0) (r : Result A ReplayFault) (reason : ReplayFault) → IsErrAnd r (λ z. z ≡ reason) → P reason → IfErr r P
+passes_on P (Ok a) reason same x = tt
+passes_on P (Err z) reason same x = subst P (sym same) x
 
 -- the same run with another pace
 pub run_with : (run : Run) (left : Absences) → IsRun run → IsRun (record run { pace = left })
@@ -107,3 +114,10 @@ module _ (core : List CoreOp) (round : Round) (number : ℕ) (is_last : Bool) (o
   behind_steady mid steady x =
       subst (λ (σ : Setting). IsSteady core σ (state_of mid)) (ap setting_of (sym x.same))
       (subst (λ (s : State Position). IsSteady core (setting_of old.setting) s) (sym x.state) (steady x.possible))
+
+  -- who could act is known, but for those who were in the round
+  pub behind_knows : (mid : Run) (left : Absences) → IsDone core round old mid → LeaveTo mid left → length left ≡ length mid.pace → IsSteady core (setting_of old.setting) (state_of old)
+      → IsSteadyBehind core round old → KnowsAbout core old [] → KnowsAbout core (record mid { pace = left }) (numbers_of mid.acting.items)
+  behind_knows mid left x leaves many steady behind knows =
+      let same : length mid.pace ≡ length old.pace = ap length x.pace in
+      knows_about core round old mid left x steady (behind x.possible) knows (leaves_old mid None left x leaves) (many ∙ same)

@@ -6,8 +6,6 @@
 
 mod end;
 mod replay;
-#[cfg(test)]
-mod tests;
 
 pub use end::{End, Replayed};
 pub use fk_replay_text::{Acts, Moment, ReplayFault, Trace, read_trace};

@@ -1,7 +1,8 @@
 -- Runs before their first round.
-use Rattle.std.proofs.Common.{◌≡◌, ℕ, zero, suc, ◌+◌, ◌<◌, ◌≤◌, ◌^◌, ◌⊎◌, inl, inr, false, List, [], ◌∷◌, ◌++◌, length, map, replicate, Option, Some, None, refl, sym, ap, ap₂, ◌∙◌, subst, arith}
+use Rattle.std.proofs.Common.{◌≡◌, ℕ, zero, suc, ◌+◌, ◌≤◌, ◌⊎◌, inl, inr, false, List, [], ◌∷◌, ◌++◌, length, replicate, Option, Some, None, refl, sym, ap, ap₂, ◌∙◌, subst, arith}
 use Rattle.std.specs.Prelude.{slice_get, slice_index, option_map, vec_len}
-use Rattle.std.proofs.lemmas.Option.{slice_get-map, slice_get_within, slice_get-get_or}
+use Rattle.std.proofs.lemmas.List.{length-replicate}
+use Rattle.std.proofs.lemmas.Option.{slice_get-map}
 use Rattle.fk_tree.specs.Tree as t
 use Rattle.fk_tree.specs.declared.node.Kind.TheVariants.{Asynchronous}
 use Rattle.fk_meaning.specs.Processor.{Processor, Setting}
@@ -119,6 +120,19 @@ none_more count items a before s b c = record {
     by : (h : ℕ) (joint : Joint) (o : Option Arrived) → slice_get (items ++ a ∷ []) h ≡ o → arrived_in (items ++ a ∷ []) h joint ≡ 0
     by h joint None e = ap (number_for joint) e
     by h joint (Some x) e = ap (number_for joint) e ∙ there h joint x (get_more items a x h e)
+
+pub none_first : NoneArrived 0 []
+none_first = record { many = refl; none = λ h joint. refl }
+
+-- ---- the counts of the first round
+
+zeros : (p h : ℕ) → slice_index (replicate p 0) h ≡ 0
+zeros zero h = refl
+zeros (suc p) zero = refl
+zeros (suc p) (suc h) = zeros p h
+
+pub none_in : (p : ℕ) (counts : List ℕ) → counts ≡ replicate p 0 → AreNone p counts
+none_in p counts is = subst (AreNone p) (sym is) (record { many = length-replicate p 0; none = zeros p })
 
 -- ---- the whole run
 

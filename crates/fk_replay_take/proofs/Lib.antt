@@ -1,3 +1,4 @@
+pub mod Asking
 pub mod Composed
 pub mod Facts
 pub mod Finishing

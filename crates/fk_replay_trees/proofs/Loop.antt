@@ -6,27 +6,24 @@ use Rattle.std.proofs.lemmas.List.{drop_all, length-map}
 use Rattle.std.proofs.lemmas.Option.{get_or_from_slice_get}
 use Rattle.fk_tree.specs.Tree as t
 use Rattle.fk_tree.specs.Tree.{Tree, is_member}
-use Rattle.fk_tree.specs.Sound.{IsSound, Has}
+use Rattle.fk_tree.specs.Sound.{IsSound}
 use Rattle.fk_meaning_operation.specs.declared.operation.Operation.{Operation}
 use Rattle.fk_meaning_operation.specs.declared.operation.Operation.TheVariants as o
-use Rattle.fk_meaning_operation.specs.declared.operation.SplitKind.{SplitKind}
-use Rattle.fk_meaning_state.specs.View.{processor_of}
 use Rattle.fk_meaning.specs.Processor.{Processor, values, last}
 use Rattle.fk_meaning.specs.Group.{changes, parts}
-use Rattle.fk_meaning.specs.Round as rounds
-use Rattle.fk_meaning.specs.Round.{Round, Step, Acting, lowest, highest, who, nobody, agreed, change_by, all_changes}
+use Rattle.fk_meaning.specs.Round.{Step, Acting, lowest, highest, who, agreed, change_by, all_changes}
 use Rattle.fk_core.specs.declared.op.CoreOp.{CoreOp}
 use Rattle.fk_core.specs.Next.{Position}
-use Rattle.fk_replay_rounds.specs.Own.{IsOwn, AreOwn}
+use Rattle.fk_replay_rounds.specs.Own.{AreOwn}
 use Rattle.fk_replay_steps.specs.Steps.{step_at, callers_of, runner_of}
 use Rattle.fk_replay_steps.specs.declared.list.Due.{Due}
 use Rattle.fk_replay_phases.specs.declared.acting.Acting as acts
 use Rattle.fk_replay_phases.specs.declared.actor.Actor.{Actor}
 use Rattle.fk_replay_phases.specs.Present.{present, numbers_of, acting_at}
 use Rattle.fk_replay_phases.specs.Actors.{acting_of, actings_of, due_of, runners_of, AreInRound}
-use Rattle.fk_replay_phases.proofs.Present.{IsNext, IsNextActing, next_acting, none_acting}
-use Rattle.fk_replay_trees.specs.Changes.{has_of, has_by, Needs, HaveParts, CanStep, CanChange}
-use Rattle.fk_replay_trees.proofs.Changing.{beside, stays_ended, gives_few, needs_still, IsAsBefore}
+use Rattle.fk_replay_phases.proofs.Present.{next_acting, none_acting}
+use Rattle.fk_replay_trees.specs.Changes.{has_of, Needs, CanStep, CanChange}
+use Rattle.fk_replay_trees.proofs.Changing.{eq_false, beside, stays_ended, gives_few, needs_still, IsAsBefore}
 
 -- the processor with a number, as the meaning finds it
 pub who_is : (core : List CoreOp) (actors : List Actor) (h : ℕ) → who (actings_of core actors) h ≡ has_of actors h
@@ -65,6 +62,17 @@ module _ (p : ℕ) (old : Tree) (acting : List acts.Acting) (actors : List Actor
     pub at_old : acting ≡ map (acting_at old) (numbers_of acting)
     pub own : AreOwn (runners_of actors)
     pub can : CanChange old actors
+
+  pub given_by : p ≤ 1024 → IsSound p old → length actors ≡ p → AreInRound acting actors → acting ≡ map (acting_at old) (numbers_of acting) → AreOwn (runners_of actors) → CanChange old actors → Given
+  given_by few sound many in_round at_old own can = record {
+    few = few;
+    sound = sound;
+    many = many;
+    in_round = in_round;
+    at_old = at_old;
+    own = own;
+    can = can;
+  }
 
   module _ (given : Given) where
     number_is : (h : ℕ) (a : Actor) → slice_get actors h ≡ Some a → (runner_of a.runner).has.number ≡ h
@@ -149,6 +157,18 @@ module _ (p : ℕ) (old : Tree) (acting : List acts.Acting) (actors : List Actor
     -- what is taken by the actor that is there
     pub taken_at : (h : ℕ) (other a : Actor) (due : Due) → slice_get actors h ≡ Some a → (get_or actors h other).taken ≡ Some due → a.taken ≡ Some due
     taken_at h other a due here taken = sym (ap (λ (x : Actor). x.taken) (get_or_from_slice_get actors h a other here)) ∙ taken
+
+    pub none_at : (h : ℕ) (other a : Actor) → slice_get actors h ≡ Some a → ((due : Due) → (get_or actors h other).taken ≡ Some due → ⊥) → a.taken ≡ None
+    none_at h other a here none = by a.taken refl
+      where
+        by : (taken : Option Due) → a.taken ≡ taken → a.taken ≡ None
+        by None e = e
+        by (Some due) e = absurd (none due (ap (λ (x : Actor). x.taken) (get_or_from_slice_get actors h a other here) ∙ e))
+
+    pub not_lowest : (i : ℕ) (x : acts.Acting) → i < length acting → x ≡ get_or acting i x → (x.number ≡ x.lowest → ⊥) → (x.number == lowest (t.members old (old.places x.number))) ≡ false
+    not_lowest i x lt is ne =
+        let lowest_at : x.lowest ≡ lowest (t.members old (old.places x.number)) = ap (λ (y : acts.Acting). y.lowest) (element i x lt is) in
+        eq_false x.number (lowest (t.members old (old.places x.number))) (λ e. ne (e ∙ sym lowest_at))
 
     -- nothing is changed by a member that isn't the lowest, or has nothing to do
     idle_by : (core : List CoreOp) (h : ℕ) (a : Actor) (tree : Tree) → (a.taken ≡ None) ⊎ ((h == lowest (t.members old (old.places h))) ≡ false)

@@ -186,10 +186,10 @@ pub fn change_all(
     ensures processors { processors tree.new ≡ processors tree.old }
 {
     for member in acting {
-        if member.number == member.lowest
-            && let Some(due) = actors[member.number as usize].taken
-        {
-            change(alloc, due.operation, *member, actors, tree)?;
+        if member.number == member.lowest {
+            if let Some(due) = actors[member.number as usize].taken {
+                change(alloc, due.operation, *member, actors, tree)?;
+            }
         }
     }
     Ok(())

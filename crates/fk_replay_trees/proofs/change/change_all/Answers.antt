@@ -1,24 +1,18 @@
-use Rattle.std.proofs.Common.{◌≡◌, ℕ, ◌+◌, ◌*◌, ◌^◌, ◌<◌, ◌≤◌, List, length, get_or, ◌∙◌, arith}
+use Rattle.std.proofs.Common.{◌<◌, ◌≤◌, inl, inr, length, get_or, ◌∙◌, arith}
 use Rattle.fk_tree.specs.View.{tree_of, processors}
 use Rattle.fk_replay_phases.specs.declared.acting.Acting.{Acting}
 use Rattle.fk_replay_phases.proofs.Highest.{element}
-use Rattle.fk_replay_trees.proofs.Loop.{Given, next_below, there_is, taken_at, can_change, changes_end}
+use Rattle.fk_replay_trees.proofs.Loop.{given_by, next_below, there_is, taken_at, none_at, not_lowest, can_change, changes_more, changes_idle, changes_end}
 use Rattle.fk_replay_trees.proofs.change.change_all.Goals as goal
+use Rattle.fk_replay_trees.proofs.change.change_all.Goals.{then-member+in-Some+in_ok-change, then-member+in_default, else-member}
 
 abbrev nobody : Acting
 nobody = record { number = 0; node = 0; lowest = 0; highest = 0 }
 
 pub bounds-actors-member : goal.bounds-actors-member
 bounds-actors-member c =
-    let given : Given (processors c.args.tree.now) (tree_of c.args.tree.now) c.args.acting.now c.args.actors.now = record {
-      few = c.requires.few;
-      sound = c.requires.sound;
-      many = c.requires.many;
-      in_round = c.requires.in_round;
-      at_old = c.requires.acting;
-      own = c.requires.own;
-      can = c.requires.can;
-    } in
+    let r = c.requires in
+    let given = given_by (processors c.args.tree.now) (tree_of c.args.tree.now) c.args.acting.now c.args.actors.now r.few r.sound r.many r.in_round r.acting r.own r.can in
     let i = c.loop-member.member-index in
     let now = tree_of c.loop-member.tree in
     let x = get_or c.args.acting.now i nobody in
@@ -30,15 +24,8 @@ bounds-actors-member c =
 
 pub bounds : goal.bounds
 bounds c =
-    let given : Given (processors c.args.tree.now) (tree_of c.args.tree.now) c.args.acting.now c.args.actors.now = record {
-      few = c.requires.few;
-      sound = c.requires.sound;
-      many = c.requires.many;
-      in_round = c.requires.in_round;
-      at_old = c.requires.acting;
-      own = c.requires.own;
-      can = c.requires.can;
-    } in
+    let r = c.requires in
+    let given = given_by (processors c.args.tree.now) (tree_of c.args.tree.now) c.args.acting.now c.args.actors.now r.few r.sound r.many r.in_round r.acting r.own r.can in
     let i = c.loop-member.member-index in
     let now = tree_of c.loop-member.tree in
     let x = get_or c.args.acting.now i nobody in
@@ -50,15 +37,8 @@ bounds c =
 
 pub bounds-actors-member-in-Some-1 : goal.bounds-actors-member-in-Some-1
 bounds-actors-member-in-Some-1 c =
-    let given : Given (processors c.args.tree.now) (tree_of c.args.tree.now) c.args.acting.now c.args.actors.now = record {
-      few = c.requires.few;
-      sound = c.requires.sound;
-      many = c.requires.many;
-      in_round = c.requires.in_round;
-      at_old = c.requires.acting;
-      own = c.requires.own;
-      can = c.requires.can;
-    } in
+    let r = c.requires in
+    let given = given_by (processors c.args.tree.now) (tree_of c.args.tree.now) c.args.acting.now c.args.actors.now r.few r.sound r.many r.in_round r.acting r.own r.can in
     let i = c.loop-member.member-index in
     let now = tree_of c.loop-member.tree in
     let x = get_or c.args.acting.now i nobody in
@@ -70,15 +50,8 @@ bounds-actors-member-in-Some-1 c =
 
 pub change-requires-clause-can : goal.change-requires-clause-can
 change-requires-clause-can c =
-    let given : Given (processors c.args.tree.now) (tree_of c.args.tree.now) c.args.acting.now c.args.actors.now = record {
-      few = c.requires.few;
-      sound = c.requires.sound;
-      many = c.requires.many;
-      in_round = c.requires.in_round;
-      at_old = c.requires.acting;
-      own = c.requires.own;
-      can = c.requires.can;
-    } in
+    let r = c.requires in
+    let given = given_by (processors c.args.tree.now) (tree_of c.args.tree.now) c.args.acting.now c.args.actors.now r.few r.sound r.many r.in_round r.acting r.own r.can in
     let i = c.loop-member.member-index in
     let now = tree_of c.loop-member.tree in
     let x = get_or c.args.acting.now i nobody in
@@ -93,15 +66,8 @@ change-requires-clause-can c =
 
 pub change-requires-clause-lowest : goal.change-requires-clause-lowest
 change-requires-clause-lowest c =
-    let given : Given (processors c.args.tree.now) (tree_of c.args.tree.now) c.args.acting.now c.args.actors.now = record {
-      few = c.requires.few;
-      sound = c.requires.sound;
-      many = c.requires.many;
-      in_round = c.requires.in_round;
-      at_old = c.requires.acting;
-      own = c.requires.own;
-      can = c.requires.can;
-    } in
+    let r = c.requires in
+    let given = given_by (processors c.args.tree.now) (tree_of c.args.tree.now) c.args.acting.now c.args.actors.now r.few r.sound r.many r.in_round r.acting r.own r.can in
     let i = c.loop-member.member-index in
     let now = tree_of c.loop-member.tree in
     let x = get_or c.args.acting.now i nobody in
@@ -116,15 +82,8 @@ change-requires-clause-lowest c =
 
 pub change-requires-clause-low : goal.change-requires-clause-low
 change-requires-clause-low c =
-    let given : Given (processors c.args.tree.now) (tree_of c.args.tree.now) c.args.acting.now c.args.actors.now = record {
-      few = c.requires.few;
-      sound = c.requires.sound;
-      many = c.requires.many;
-      in_round = c.requires.in_round;
-      at_old = c.requires.acting;
-      own = c.requires.own;
-      can = c.requires.can;
-    } in
+    let r = c.requires in
+    let given = given_by (processors c.args.tree.now) (tree_of c.args.tree.now) c.args.acting.now c.args.actors.now r.few r.sound r.many r.in_round r.acting r.own r.can in
     let i = c.loop-member.member-index in
     let now = tree_of c.loop-member.tree in
     let x = get_or c.args.acting.now i nobody in
@@ -139,15 +98,8 @@ change-requires-clause-low c =
 
 pub change-requires-clause-high : goal.change-requires-clause-high
 change-requires-clause-high c =
-    let given : Given (processors c.args.tree.now) (tree_of c.args.tree.now) c.args.acting.now c.args.actors.now = record {
-      few = c.requires.few;
-      sound = c.requires.sound;
-      many = c.requires.many;
-      in_round = c.requires.in_round;
-      at_old = c.requires.acting;
-      own = c.requires.own;
-      can = c.requires.can;
-    } in
+    let r = c.requires in
+    let given = given_by (processors c.args.tree.now) (tree_of c.args.tree.now) c.args.acting.now c.args.actors.now r.few r.sound r.many r.in_round r.acting r.own r.can in
     let i = c.loop-member.member-index in
     let now = tree_of c.loop-member.tree in
     let x = get_or c.args.acting.now i nobody in
@@ -162,15 +114,8 @@ change-requires-clause-high c =
 
 pub change-requires-clause-given : goal.change-requires-clause-given
 change-requires-clause-given c =
-    let given : Given (processors c.args.tree.now) (tree_of c.args.tree.now) c.args.acting.now c.args.actors.now = record {
-      few = c.requires.few;
-      sound = c.requires.sound;
-      many = c.requires.many;
-      in_round = c.requires.in_round;
-      at_old = c.requires.acting;
-      own = c.requires.own;
-      can = c.requires.can;
-    } in
+    let r = c.requires in
+    let given = given_by (processors c.args.tree.now) (tree_of c.args.tree.now) c.args.acting.now c.args.actors.now r.few r.sound r.many r.in_round r.acting r.own r.can in
     let i = c.loop-member.member-index in
     let now = tree_of c.loop-member.tree in
     let x = get_or c.args.acting.now i nobody in
@@ -185,15 +130,8 @@ change-requires-clause-given c =
 
 pub returns-clause-tree : goal.returns-clause-tree
 returns-clause-tree c =
-    let given : Given (processors c.args.tree.now) (tree_of c.args.tree.now) c.args.acting.now c.args.actors.now = record {
-      few = c.requires.few;
-      sound = c.requires.sound;
-      many = c.requires.many;
-      in_round = c.requires.in_round;
-      at_old = c.requires.acting;
-      own = c.requires.own;
-      can = c.requires.can;
-    } in
+    let r = c.requires in
+    let given = given_by (processors c.args.tree.now) (tree_of c.args.tree.now) c.args.acting.now c.args.actors.now r.few r.sound r.many r.in_round r.acting r.own r.can in
     let i = c.loop-member.member-index in
     let now = tree_of c.loop-member.tree in
     let at = c.loop-member.invariant.1 given in
@@ -205,15 +143,8 @@ returns-clause-tree c =
 
 pub returns-clause-given : goal.returns-clause-given
 returns-clause-given c =
-    let given : Given (processors c.args.tree.now) (tree_of c.args.tree.now) c.args.acting.now c.args.actors.now = record {
-      few = c.requires.few;
-      sound = c.requires.sound;
-      many = c.requires.many;
-      in_round = c.requires.in_round;
-      at_old = c.requires.acting;
-      own = c.requires.own;
-      can = c.requires.can;
-    } in
+    let r = c.requires in
+    let given = given_by (processors c.args.tree.now) (tree_of c.args.tree.now) c.args.acting.now c.args.actors.now r.few r.sound r.many r.in_round r.acting r.own r.can in
     let i = c.loop-member.member-index in
     let now = tree_of c.loop-member.tree in
     let at = c.loop-member.invariant.1 given in
@@ -222,3 +153,41 @@ returns-clause-given c =
     let most = at.most in
     let few = c.requires.few in
     omega (arith, high, before, most, few)
+
+pub loop-member-preserved : goal.loop-member-preserved
+loop-member-preserved c =
+    let i = c.loop-member.member-index in
+    let now = tree_of c.loop-member.tree in
+    let x = get_or c.args.acting.now i nobody in
+    let lt : i < length c.args.acting.now = c.loop-member-test.true in
+    let is = element c.args.acting.now i nobody lt in
+    elim c.if-member.branch [
+      | then-member+in-Some+in_ok-change w ↦ rw w.tree-is (
+        w.change.ensures.processors ∙ c.loop-member.invariant.0,
+        λ given.
+            let at = c.loop-member.invariant.1 given in
+            let bound = next_below (processors c.args.tree.now) (tree_of c.args.tree.now) c.args.acting.now c.args.actors.now given i now x at lt is in
+            let a = there_is c.args.actors.now x.number bound.0 in
+            changes_more (processors c.args.tree.now) (tree_of c.args.tree.now) c.args.acting.now c.args.actors.now given i now (tree_of w.change.new.tree) x a.0 w.in-Some.due at lt is a.1
+            (taken_at (processors c.args.tree.now) (tree_of c.args.tree.now) c.args.acting.now c.args.actors.now given x.number _ a.0 w.in-Some.due a.1 w.in-Some.is)
+            w.if-member.true w.in_ok-change.ensures.tree,
+      )
+      | then-member+in_default w ↦ rw w.tree-is (
+        c.loop-member.invariant.0,
+        λ given.
+            let at = c.loop-member.invariant.1 given in
+            let bound = next_below (processors c.args.tree.now) (tree_of c.args.tree.now) c.args.acting.now c.args.actors.now given i now x at lt is in
+            let a = there_is c.args.actors.now x.number bound.0 in
+            changes_idle (processors c.args.tree.now) (tree_of c.args.tree.now) c.args.acting.now c.args.actors.now given i now x a.0 at lt is a.1
+            (inl (none_at (processors c.args.tree.now) (tree_of c.args.tree.now) c.args.acting.now c.args.actors.now given x.number _ a.0 a.1 w.in_default.not-Some)),
+      )
+      | else-member w ↦ rw w.tree-is (
+        c.loop-member.invariant.0,
+        λ given.
+            let at = c.loop-member.invariant.1 given in
+            let bound = next_below (processors c.args.tree.now) (tree_of c.args.tree.now) c.args.acting.now c.args.actors.now given i now x at lt is in
+            let a = there_is c.args.actors.now x.number bound.0 in
+            changes_idle (processors c.args.tree.now) (tree_of c.args.tree.now) c.args.acting.now c.args.actors.now given i now x a.0 at lt is a.1
+            (inr (not_lowest (processors c.args.tree.now) (tree_of c.args.tree.now) c.args.acting.now c.args.actors.now given i x lt is w.if-member.false)),
+      )
+    ]
