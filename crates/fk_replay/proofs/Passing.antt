@@ -1,5 +1,6 @@
 -- What a round makes of a run and its pace.
 use Rattle.std.proofs.Common.{◌≡◌, ℕ, suc, Bool, true, false, true≢false, ◌⊎◌, inl, inr, List, [], length, Option, Some, None, refl, sym, ap, ◌∙◌, subst}
+use Rattle.std.specs.Prelude.{Result, Ok, Err, IsErrAnd, IfErr}
 use Rattle.fk_meaning_state.specs.View.{setting_of}
 use Rattle.fk_meaning.specs.Processor.{Setting}
 use Rattle.fk_meaning.specs.Round.{State, Round}
@@ -33,6 +34,11 @@ same_run run new e x = subst IsRun (sym e) (record {
   modes = x.modes;
   own = x.own;
 })
+
+-- a reason is passed on as it is
+pub passes_on : {A : Type 0} (P : ReplayFault → Type 0) (r : Result A ReplayFault) (reason : ReplayFault) → IsErrAnd r (λ z. z ≡ reason) → P reason → IfErr r P
+passes_on P (Ok a) reason same x = tt
+passes_on P (Err z) reason same x = subst P (sym same) x
 
 -- the same run with another pace
 pub run_with : (run : Run) (left : Absences) → IsRun run → IsRun (record run { pace = left })

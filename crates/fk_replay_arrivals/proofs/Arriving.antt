@@ -1,5 +1,5 @@
 -- What is known when a processor in memory comes to its next operation.
-use Rattle.std.proofs.Common.{◌≡◌, ◌≢◌, ℕ, suc, ◌+◌, ◌<◌, ◌≤◌, ◌^◌, Bool, true, false, true≢false, List, [], ◌∷◌, length, map, set, slice_get, Option, Some, None, is_some, refl, sym, ap, ◌∙◌, subst, arith}
+use Rattle.std.proofs.Common.{◌≡◌, ◌≢◌, ℕ, suc, ◌+◌, ◌<◌, ◌≤◌, ◌^◌, Bool, true, false, true≢false, List, ◌∷◌, length, set, slice_get, Option, Some, is_some, refl, sym, ap, ◌∙◌, subst, arith}
 use Rattle.std.proofs.Math.Path.{fun_ext}
 use Rattle.fk_meaning_operation.specs.declared.kinds.Joint.{Joint}
 use Rattle.fk_meaning_operation.specs.declared.kinds.Joint.TheVariants.{Alone, Starting, AtBarrier, Closing, Resuming}
@@ -13,12 +13,12 @@ use Rattle.fk_core.specs.Next.{Position, next, landing}
 use Rattle.fk_lockstep.proofs.Rounds.{map_at}
 use Rattle.fk_lockstep_tree.specs.Runs.{StandsInTree}
 use Rattle.fk_replay_rounds.specs.Modes.{mode_of}
-use Rattle.fk_replay_steps.specs.Pace.{Absences, since}
+use Rattle.fk_replay_steps.specs.Pace.{Absences}
 use Rattle.fk_replay_steps.specs.Steps.{runner_of, position_of}
 use Rattle.fk_replay_phases.specs.declared.actor.Actor.{Actor}
 use Rattle.fk_replay_phases.specs.Modes.{HaveModes}
 use Rattle.fk_replay_able.specs.Able.{waits_for_none, step_of, step_at, joint_before}
-use Rattle.fk_replay_able.specs.Known.{with_one, with_all, is_free, KnowsAble, CountsOne, Arrives}
+use Rattle.fk_replay_able.specs.Known.{with_all, is_free, KnowsAble, CountsOne, Arrives}
 use Rattle.fk_replay_able.proofs.Able.{alone_free}
 use Rattle.fk_replay_able.proofs.Arrivals.{arrivals_know_able}
 use Rattle.fk_replay_arrivals.specs.declared.arrived.Arrived.{Arrived}

@@ -1,16 +1,15 @@
 -- How many have come to a joint operation, where the numbers of one processor are replaced.
-use Rattle.std.proofs.Common.{◌≡◌, ◌⊎◌, inl, inr, ℕ, zero, suc, ◌+◌, ◌<◌, ◌≤◌, Bool, true, false, true≢false, List, length, set, slice_get, Option, Some, None, refl, sym, ap, ◌∙◌, subst, arith, if◌then◌else◌}
+use Rattle.std.proofs.Common.{◌≡◌, ◌⊎◌, inl, inr, ℕ, suc, ◌+◌, ◌<◌, ◌^◌, Bool, true, false, true≢false, List, length, set, slice_get, get_or, Some, refl, sym, ap, ◌∙◌, subst, arith, if◌then◌else◌}
 use Rattle.std.proofs.lemmas.Bool.{cases_eq}
-use Rattle.std.proofs.lemmas.Option.{slice_get_within}
+use Rattle.std.proofs.lemmas.Option.{slice_get_within, slice_get_read}
 use Rattle.fk_meaning_operation.specs.declared.kinds.Joint.{Joint}
 use Rattle.fk_meaning_operation.specs.declared.kinds.Joint.TheVariants.{Alone, Starting, AtBarrier, Closing, Resuming}
 use Rattle.fk_meaning.specs.Round.{same_joint}
-use Rattle.fk_replay_steps.specs.declared.list.Due.{Due}
 use Rattle.fk_replay_phases.specs.declared.actor.Actor.{Actor}
 use Rattle.fk_replay_phases.specs.declared.acting.Acting.{Acting}
 use Rattle.fk_replay_able.proofs.Able.{same_is, same_self}
 use Rattle.fk_replay_arrivals.specs.declared.arrived.Arrived.{Arrived}
-use Rattle.fk_replay_arrivals.specs.Arrived.{number_in, number_for, arrived_in, joint_taken, HasNumber, IsDoneBy, HaveForgotten}
+use Rattle.fk_replay_arrivals.specs.Arrived.{number_in, number_for, arrived_in, is_counted, joint_taken, HasNumber, HasOneMore, IsDoneBy, HaveForgotten}
 use Rattle.fk_replay_arrivals.proofs.Begun.{set_length, set_here, set_there}
 
 -- one of the three numbers is another
@@ -35,20 +34,42 @@ sets_closing a n AtBarrier = refl
 sets_closing a n Closing = refl
 sets_closing a n Resuming = refl
 
--- who acts alone or resumes isn't counted
-pub sets_alone : (a : Arrived) → HasNumber Alone 0 a a
-sets_alone a Alone = refl
-sets_alone a Starting = refl
-sets_alone a AtBarrier = refl
-sets_alone a Closing = refl
-sets_alone a Resuming = refl
+-- one of them is one more
+module _ (a : Arrived) (joint : Joint) (number result : ℕ) (few : number_in joint a + 1 < 2 ^ 32) (result_is : result ≡ number) where
+  pub more_starting : joint ≡ Starting → (a.starting + 1 < 2 ^ 32 → number ≡ a.starting + 1) → HasOneMore joint result a (record a { starting = number })
+  more_starting is new =
+      let same = ap (λ (j : Joint). number_in j a) is in
+      let more = new (omega (arith, few, same)) in
+      subst (λ (j : Joint). HasOneMore j result a (record a { starting = number })) (sym is) (record {
+        number_is = omega (arith, more, result_is);
+        one = subst (λ (n : ℕ). HasNumber Starting n a (record a { starting = number })) (sym result_is) (sets_starting a number);
+      })
 
-pub sets_resuming : (a : Arrived) → HasNumber Resuming 0 a a
-sets_resuming a Alone = refl
-sets_resuming a Starting = refl
-sets_resuming a AtBarrier = refl
-sets_resuming a Closing = refl
-sets_resuming a Resuming = refl
+  pub more_at_barrier : joint ≡ AtBarrier → (a.at_barrier + 1 < 2 ^ 32 → number ≡ a.at_barrier + 1) → HasOneMore joint result a (record a { at_barrier = number })
+  more_at_barrier is new =
+      let same = ap (λ (j : Joint). number_in j a) is in
+      let more = new (omega (arith, few, same)) in
+      subst (λ (j : Joint). HasOneMore j result a (record a { at_barrier = number })) (sym is) (record {
+        number_is = omega (arith, more, result_is);
+        one = subst (λ (n : ℕ). HasNumber AtBarrier n a (record a { at_barrier = number })) (sym result_is) (sets_at_barrier a number);
+      })
+
+  pub more_closing : joint ≡ Closing → (a.closing + 1 < 2 ^ 32 → number ≡ a.closing + 1) → HasOneMore joint result a (record a { closing = number })
+  more_closing is new =
+      let same = ap (λ (j : Joint). number_in j a) is in
+      let more = new (omega (arith, few, same)) in
+      subst (λ (j : Joint). HasOneMore j result a (record a { closing = number })) (sym is) (record {
+        number_is = omega (arith, more, result_is);
+        one = subst (λ (n : ℕ). HasNumber Closing n a (record a { closing = number })) (sym result_is) (sets_closing a number);
+      })
+
+-- the joint kinds that are counted
+pub is_closing : (joint : Joint) → is_counted joint ≡ true → (joint ≡ Starting → ⊥) → (joint ≡ AtBarrier → ⊥) → joint ≡ Closing
+is_closing Starting counted other others = absurd (other refl)
+is_closing AtBarrier counted other others = absurd (others refl)
+is_closing Closing counted other others = refl
+is_closing Alone counted other others = absurd (true≢false (sym counted))
+is_closing Resuming counted other others = absurd (true≢false (sym counted))
 
 joint_or : (a b : Joint) → (a ≡ b) ⊎ ((a ≡ b → ⊥) × (same_joint a b ≡ false))
 joint_or a b = by (same_joint a b) refl
@@ -124,7 +145,7 @@ module _ (acting : List Acting) (actors : List Actor) (old : List Arrived) where
       by_this : IsDoneBy acting actors x.number (joint_taken a.taken)
       by_this = record { index = i; member = x; at = at; number = refl; lowest = sym low; actor = a; there = there; taken = refl }
 
-      Is : ℕ → Joint → Type 0
+      abbrev Is : ℕ → Joint → Type 0
       Is h joint = (h ≡ x.number) × (joint ≡ joint_taken a.taken)
 
       is_or : (h : ℕ) (joint : Joint) → Is h joint ⊎ (Is h joint → ⊥)
@@ -159,12 +180,22 @@ module _ (acting : List Acting) (actors : List Actor) (old : List Arrived) where
       kept h joint none (inr other) = sets.kept h joint other ∙ so_far.kept h joint (λ by before. none by (omega (arith, before)))
       kept h joint none (inl is) = absurd (none (record { index = i; member = x; at = at; number = sym is.0; lowest = sym low ∙ sym is.0; actor = a; there = ap (slice_get actors) is.0 ∙ there; taken = is.1 }) (omega arith))
 
-      pub forgets_one : HaveForgottenAt (suc i) new
+      forgets_one : HaveForgottenAt (suc i) new
       forgets_one = record {
         many = sets.many ∙ so_far.many;
         done = λ h joint by before. done h joint by (before_or_at by.index i before) (is_or h joint);
         kept = λ h joint none. kept h joint none (is_or h joint);
       }
+
+    -- as the code reads and writes it
+    pub forgets_there : (a : Actor) (z y : Arrived) (joint : Joint) → length old ≡ length actors → x.number < length actors → a ≡ get_or actors x.number a → x.number ≡ x.lowest → z ≡ get_or now x.number z
+        → joint ≡ joint_taken (get_or actors x.number a).taken → HasNumber joint 0 z y → HaveForgottenAt (suc i) (set now x.number y)
+    forgets_there a z y joint many within actor_is low number_is joint_is has =
+        let size = so_far.many in
+        let here : slice_get now x.number ≡ Some z = slice_get_read now (length actors) x.number z (omega (arith, many, size)) within number_is in
+        let taken : joint ≡ joint_taken a.taken = joint_is ∙ ap (λ (b : Actor). joint_taken b.taken) (sym actor_is) in
+        forgets_one a (slice_get_read actors (length actors) x.number a refl within actor_is) low (set now x.number y)
+        (subst (λ (j : Joint). IsSetAt x.number j 0 now (set now x.number y)) taken (is_set now x.number z y joint 0 here has))
 
   pub forgets_all : (i : ℕ) (now : List Arrived) → i ≡ length acting → HaveForgottenAt i now → HaveForgotten acting actors old now
   forgets_all i now all at = record {

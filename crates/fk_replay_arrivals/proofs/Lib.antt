@@ -4,5 +4,7 @@ pub mod Begun
 pub mod Counting
 -- what is known when one comes
 pub mod Arriving
+-- what a processor is before
+pub mod Coming
 -- what is known while all of them come
 pub mod Telling

@@ -1,5 +1,5 @@
 -- What is known while those who were in a round come to their next operations.
-use Rattle.std.proofs.Common.{◌≡◌, ◌⊎◌, inl, inr, ℕ, zero, suc, ◌+◌, ◌<◌, ◌≤◌, List, [], ◌∷◌, length, map, drop, get_or, refl, sym, ap, ◌∙◌, subst, arith}
+use Rattle.std.proofs.Common.{◌≡◌, ◌⊎◌, inl, inr, ℕ, zero, suc, ◌+◌, ◌<◌, ◌≤◌, List, [], ◌∷◌, length, drop, get_or, refl, sym, ap, ◌∙◌, subst, arith}
 use Rattle.std.specs.Prelude.{slice_index}
 use Rattle.std.proofs.lemmas.Bool.{cases_eq}
 use Rattle.fk_tree.specs.Tree.{Tree, below}
@@ -13,7 +13,7 @@ use Rattle.fk_replay_arrivals.specs.declared.arrived.Arrived.{Arrived}
 use Rattle.fk_replay_arrivals.specs.Arrived.{BecomesKnown, KnowsBehind}
 use Rattle.fk_replay_arrivals.proofs.Begun.{becomes_none, becomes_both}
 
-drop_next : (ns : List ℕ) (i : ℕ) → i < length ns → drop i ns ≡ slice_index ns i ∷ drop (i + 1) ns
+drop_next : (ns : List ℕ) (i : ℕ) → i < length ns → drop i ns ≡ slice_index ns i ∷ drop (suc i) ns
 drop_next [] i low = absurd (omega (arith, low))
 drop_next (n ∷ ns) zero low = refl
 drop_next (n ∷ ns) (suc i) low = drop_next ns i (omega (arith, low))
@@ -48,11 +48,11 @@ after_below (suc p) k more = ap (slice_index (below p (p ∷ more))) (let e : su
 
 at_below : (p i : ℕ) (more : List ℕ) → i < p → slice_index (below p more) i ≡ i
 at_below zero i more low = absurd (omega (arith, low))
-at_below (suc p) i more low = by (cases_eq i p)
+at_below (suc p) i more low = by (cases_eq i p) (λ lt. at_below p i (p ∷ more) lt)
   where
-    by : (i ≡ p) ⊎ (i ≡ p → ⊥) → slice_index (below p (p ∷ more)) i ≡ i
-    by (inl e) = ap (slice_index (below p (p ∷ more))) (let f : i ≡ p + 0 = omega (arith, e) in f) ∙ after_below p 0 (p ∷ more) ∙ sym e
-    by (inr ne) = at_below p i (p ∷ more) (omega (arith, low, ne))
+    by : (i ≡ p) ⊎ (i ≡ p → ⊥) → (i < p → slice_index (below p (p ∷ more)) i ≡ i) → slice_index (below p (p ∷ more)) i ≡ i
+    by (inl e) lower = ap (slice_index (below p (p ∷ more))) (let f : i ≡ p + 0 = omega (arith, e) in f) ∙ after_below p 0 (p ∷ more) ∙ sym e
+    by (inr ne) lower = lower (omega (arith, low, ne))
 
 pub all_at : (p i : ℕ) → i < p → slice_index (below p []) i ≡ i
 all_at p i low = at_below p i [] low
@@ -76,8 +76,9 @@ module _ (core : List CoreOp) (tree : Tree) (actors : List Actor) (numbers : Lis
     becomes = becomes_both round old now now' so_far.becomes becomes;
     many = many ∙ so_far.many;
     known = λ set s of stands knows.
+        let one : suc i ≡ i + 1 = omega arith in
         let before = so_far.known set s of stands knows in
-        subst (λ (ns : List ℕ). KnowsBehind core tree actors ns (drop (i + 1) numbers) now now' is is') (sym (drop_next numbers i low)) (known (drop (i + 1) numbers)) set s of stands before;
+        subst (λ (ns : List ℕ). KnowsBehind core tree actors ns (drop (i + 1) numbers) now now' is is') (sym (drop_next numbers i low ∙ ap (λ (n : ℕ). slice_index numbers i ∷ drop n numbers) one)) (known (drop (i + 1) numbers)) set s of stands before;
   }
 
   pub comes_all : (i : ℕ) (now : Absences) (is : List Arrived) → length numbers ≤ i → HaveCome i now is → KnowsBehind core tree actors numbers [] old now was is

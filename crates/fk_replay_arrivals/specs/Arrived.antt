@@ -1,12 +1,12 @@
 -- Who is known to be able, and how many have come to joint operations, in memory.
-use Rattle.std.specs.Prelude.{◌≡◌, ℕ, suc, ◌<◌, ◌||◌, Bool, List, Option, Some, None, slice_get, is_some}
-use Rattle.std.specs.Prelude.{if◌then◌else◌, length, slice_index}
+use Rattle.std.specs.Prelude.{◌≡◌, ℕ, suc, ◌||◌, Bool, List, Option, Some, None, slice_get, is_some}
+use Rattle.std.specs.Prelude.{if◌then◌else◌, length}
 use Rattle.fk_tree.specs.Tree as t
 use Rattle.fk_tree.specs.Tree.{is_member}
 use Rattle.fk_meaning_operation.specs.Kinds.{joint_of}
 use Rattle.fk_meaning_operation.specs.declared.kinds.Joint.{Joint}
 use Rattle.fk_meaning_operation.specs.declared.kinds.Joint.TheVariants.{Alone, Starting, AtBarrier}
-use Rattle.fk_meaning_operation.specs.declared.kinds.Joint.TheVariants.{Closing, Resuming}
+use Rattle.fk_meaning_operation.specs.declared.kinds.Joint.TheVariants.{Closing}
 use Rattle.fk_meaning.specs.Processor.{Setting}
 use Rattle.fk_meaning.specs.Round.{State, same_joint}
 use Rattle.fk_core.specs.declared.op.CoreOp.{CoreOp}

@@ -29,18 +29,25 @@ fn forget(joint: Joint, arrived: &mut Arrived)
     }
 }
 
+/// One more than a number.
+fn one_more_than(number: &mut u32) -> u32
+    ensures new { number.old + 1 < 2 ^ 32 → number.new ≡ number.old + 1 }
+    ensures result { result ≡ number.new }
+{
+    *number = number.wrapping_add(1);
+    *number
+}
+
 /// One more is before a joint operation. It gives their number.
 pub(crate) fn one_more(joint: Joint, arrived: &mut Arrived) -> u32
     ensures { is_counted joint ≡ true → number_in joint arrived.old + 1 < 2 ^ 32
         → HasOneMore joint result arrived.old arrived.new }
 {
-    let number = match joint {
-        Joint::Starting => &mut arrived.starting,
-        Joint::AtBarrier => &mut arrived.at_barrier,
-        _ => &mut arrived.closing,
-    };
-    *number = number.wrapping_add(1);
-    *number
+    match joint {
+        Joint::Starting => one_more_than(&mut arrived.starting),
+        Joint::AtBarrier => one_more_than(&mut arrived.at_barrier),
+        _ => one_more_than(&mut arrived.closing),
+    }
 }
 
 /// What those do together who do an operation that was taken.

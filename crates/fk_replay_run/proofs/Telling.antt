@@ -1,26 +1,25 @@
 -- Who could act before a round is told.
-use Rattle.std.proofs.Common.{◌≡◌, ℕ, zero, suc, ◌<◌, ◌≤◌, Bool, true, false, true≢false, ◌⊎◌, inl, inr, List, [], length, replicate, Option, Some, None, is_some, refl, sym, ap, ◌∙◌, subst, arith}
-use Rattle.std.specs.Prelude.{vec_len}
+use Rattle.std.proofs.Common.{◌≡◌, ℕ, zero, suc, ◌<◌, Bool, true, false, true≢false, ◌⊎◌, inl, inr, List, [], length, replicate, None, is_some, refl, sym, ap, ◌∙◌, subst, arith}
+use Rattle.std.specs.Prelude.{slice_index}
 use Rattle.std.proofs.Math.Path.{fun_ext}
+use Rattle.std.proofs.lemmas.List.{length-replicate}
 use Rattle.fk_tree.specs.Tree as t
 use Rattle.fk_tree.specs.Tree.{is_member, below}
 use Rattle.fk_tree.specs.Sound.{is_ascending}
 use Rattle.fk_tree.specs.View.{tree_of, processors}
-use Rattle.fk_tree.proofs.Lists.{below-has}
+use Rattle.fk_tree.proofs.Lists.{below-has, member_at}
 use Rattle.fk_meaning_operation.specs.declared.kinds.Joint.{Joint}
 use Rattle.fk_meaning_state.specs.View.{setting_of}
-use Rattle.fk_meaning.specs.Processor.{Setting}
 use Rattle.fk_meaning.specs.Round.{State}
 use Rattle.fk_core.specs.declared.op.CoreOp.{CoreOp}
 use Rattle.fk_core.specs.Next.{Position, next, landing}
-use Rattle.fk_meaning.specs.Schedule.{CouldAct}
 use Rattle.fk_replay_counts.specs.Steady.{IsSteadyInTree}
-use Rattle.fk_replay_able.specs.Able.{IsAble, IsToldByAble}
+use Rattle.fk_replay_able.specs.Able.{IsToldByAble}
 use Rattle.fk_replay_able.specs.Known.{IsAnnounced, KnowsAble}
 use Rattle.fk_replay_able.proofs.Able.{who_could_act_is_able}
 use Rattle.fk_replay_able.proofs.Arrivals.{openings_know_able}
 use Rattle.fk_replay_steps.specs.Pace.{Absences, since}
-use Rattle.fk_replay_phases.specs.Actors.{runners_of}
+use Rattle.fk_replay_phases.specs.Present.{AreBelow}
 use Rattle.fk_replay_arrivals.specs.Arrived.{is_known, arrived_in, BecomesKnown, KnowsBehind, AreOf}
 use Rattle.fk_replay_run.specs.declared.run.Run.{Run}
 use Rattle.fk_replay_run.specs.Steady.{IsSteady}
@@ -28,14 +27,10 @@ use Rattle.fk_replay_run.specs.Runs.{IsRun, state_of}
 use Rattle.fk_replay_run.specs.Arrivals.{NoneArrived}
 use Rattle.fk_replay_run.specs.Told.{KnowsAbout, HasTold}
 
-none_since : (p h : ℕ) → since (replicate p None) h ≡ None
+pub none_since : (p h : ℕ) → since (replicate p None) h ≡ None
 none_since zero h = refl
 none_since (suc p) zero = refl
 none_since (suc p) (suc h) = none_since p h
-
-many_none : (p : ℕ) → length (replicate {X = Option ℕ} p None) ≡ p
-many_none zero = refl
-many_none (suc p) = ap (λ (n : ℕ). suc n) (many_none p)
 
 module _ (core : List CoreOp) (old : Run) (steady : IsSteady core (setting_of old.setting) (state_of old)) where
   in_tree : IsSteadyInTree (next core) (λ (w : Position). landing core w.at) (setting_of old.setting) (state_of old)
@@ -46,6 +41,16 @@ module _ (core : List CoreOp) (old : Run) (steady : IsSteady core (setting_of ol
 
   are_of : AreOf (tree_of old.tree) old.actors.items (state_of old)
   are_of = record { tree_is = refl; runners_are = refl }
+
+  -- those who are still to come are processors
+  pub are_below : (numbers : List ℕ) → IsRun old → KnowsAbout core old numbers → AreBelow (processors old.tree) numbers
+  are_below numbers run knows = record {
+    each = λ i low.
+        let placed = knows.able.placed (slice_index numbers i) (member_at numbers i low) in
+        let lt = steady.stands.sound.within ((tree_of old.tree).places (slice_index numbers i)) (slice_index numbers i) placed in
+        let size = run.setting in
+        omega (arith, lt, size);
+  }
 
   -- what is known once those have come who were still to come
   pub has_told : (numbers : List ℕ) (round : ℕ) (new : Run) → KnowsAbout core old numbers → new ≡ record old { pace = new.pace; arrived = new.arrived } → BecomesKnown round old.pace new.pace
@@ -79,7 +84,7 @@ module _ (core : List CoreOp) (old : Run) (steady : IsSteady core (setting_of ol
   -- what is known before anybody has come
   pub knows_first : IsRun old → old.pace ≡ replicate (processors old.tree) None → NoneArrived (processors old.tree) old.arrived.items → KnowsAbout core old (below (processors old.tree) [])
   knows_first run pace none = record {
-    pace = ap (λ (a : Absences). length a) pace ∙ many_none (processors old.tree);
+    pace = ap (λ (a : Absences). length a) pace ∙ length-replicate (processors old.tree) None;
     arrived = none.many;
     able = subst (λ (known : ℕ → Bool). KnowsAble (next core) (state_of old) (below p []) known (arrived_in old.arrived.items)) (fun_ext (λ h. sym (unknown h)))
         (subst (λ (arrived : ℕ → Joint → ℕ). KnowsAble (next core) (state_of old) (below p []) (λ h. false) arrived) (fun_ext (λ h. fun_ext (λ joint. sym (none.none h joint))))

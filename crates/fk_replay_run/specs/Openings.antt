@@ -1,5 +1,5 @@
 -- A run in memory before its first round.
-use Rattle.std.specs.Prelude.{◌≡◌, ℕ, ◌<◌, ◌≤◌, List, [], None, Some, length, replicate, slice_get, slice_index}
+use Rattle.std.specs.Prelude.{◌≡◌, ℕ, ◌≤◌, List, [], None, Some, length, replicate, slice_get, slice_index}
 use Rattle.fk_tree.specs.View.{tree_of, processors}
 use Rattle.fk_meaning_state.specs.View.{setting_of}
 use Rattle.fk_meaning.specs.Processor.{Setting}
@@ -8,7 +8,7 @@ use Rattle.fk_meaning.specs.Processor as processor
 use Rattle.fk_meaning.specs.Processor as processor
 use Rattle.fk_meaning.specs.Processor as processor
 use Rattle.fk_meaning.specs.Schedule.{first_processor}
-use Rattle.fk_core.specs.Next.{Position, position, list_opening}
+use Rattle.fk_core.specs.Next.{position, list_opening}
 use Rattle.fk_replay_rounds.specs.declared.mode.Mode.TheVariants.{Apart}
 use Rattle.fk_replay_phases.specs.declared.actor.Actor.{Actor}
 use Rattle.fk_replay_steps.specs.Steps.{runner_of}

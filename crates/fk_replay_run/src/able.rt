@@ -34,6 +34,14 @@ impl Run {
         ensures { HasTold ops.now next self.old self.new }
     {
         let (acting, tree, actors) = (&self.acting, &self.tree, &self.actors);
-        tell(ops, acting, tree, actors, next, &mut self.pace, &mut self.arrived);
+        tell(
+            ops,
+            acting,
+            tree,
+            actors,
+            next,
+            &mut self.pace,
+            &mut self.arrived,
+        );
     }
 }

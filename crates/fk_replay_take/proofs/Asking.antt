@@ -1,8 +1,7 @@
 -- The beginning and the requests of a round.
-use Rattle.std.proofs.Common.{◌≡◌, ℕ, suc, ◌<◌, ◌≤◌, Bool, true, false, List, [], ◌∷◌, length, Option, Some, None, ap, refl, sym, ◌∙◌, subst, arith}
+use Rattle.std.proofs.Common.{◌≡◌, ℕ, suc, ◌≤◌, Bool, true, false, List, [], ◌∷◌, length, Option, ap, refl, sym, ◌∙◌, subst, arith}
 use Rattle.std.specs.Prelude.{slice_index, vec_len}
 use Rattle.fk_trace.specs.Text.{Range}
-use Rattle.fk_tree.specs.Tree as t
 use Rattle.fk_tree.specs.View.{tree_of, processors}
 use Rattle.fk_meaning_store.specs.View.{store_of, processors_of}
 use Rattle.fk_meaning_state.specs.View.{setting_of}

@@ -1,18 +1,15 @@
 -- A round, from its phases.
-use Rattle.std.proofs.Common.{◌≡◌, ◌≢◌, ℕ, zero, suc, ◌+◌, ◌<◌, ◌≤◌, Bool, true, false, ◌&&◌, ◌||◌, ◌⊎◌, inl, inr, List, [], ◌∷◌, length, map, Option, Some, None, ap, refl, sym, ◌∙◌, subst, arith}
-use Rattle.std.specs.Prelude.{◌==◌, nat_lt, slice_index, slice_get, option_map, is_none, is_some}
+use Rattle.std.proofs.Common.{◌≡◌, ℕ, zero, suc, ◌+◌, ◌<◌, ◌≤◌, Bool, true, false, ◌&&◌, List, [], ◌∷◌, length, map, Option, Some, None, ap, refl, sym, ◌∙◌, subst, arith}
+use Rattle.std.specs.Prelude.{nat_lt, slice_index, slice_get, option_map, is_none, is_some}
 use Rattle.std.proofs.Math.Path.{fun_ext}
-use Rattle.std.specs.List.{list_all}
 use Rattle.fk_tree.specs.Tree as t
 use Rattle.fk_tree.specs.Tree.{Tree, is_member}
-use Rattle.fk_tree.specs.Sound.{IsSound, Has}
+use Rattle.fk_tree.specs.Sound.{IsSound}
 use Rattle.fk_tree.specs.declared.node.Kind.{Kind}
 use Rattle.fk_tree.specs.declared.node.Kind.TheVariants.{Lockstep, Waiting, Asynchronous}
 use Rattle.fk_meaning_operation.specs.Kinds.{class_of, joint_of}
 use Rattle.fk_meaning_operation.specs.declared.operation.Operation.{Operation}
 use Rattle.fk_meaning_operation.specs.declared.operation.Operation.TheVariants.{Resume}
-use Rattle.fk_meaning_operation.specs.declared.kinds.Class.TheVariants.{Local, Tree as InTree}
-use Rattle.fk_meaning_operation.specs.declared.kinds.Joint.{Joint}
 use Rattle.fk_meaning_operation.specs.declared.kinds.Joint.TheVariants.{Alone, Resuming}
 use Rattle.fk_meaning_store.specs.Store.{Store}
 use Rattle.fk_meaning.specs.Processor.{Setting}
@@ -21,18 +18,16 @@ use Rattle.fk_meaning.specs.Round.{Step, Runner, Acting, State, Round, Fault, ta
 use Rattle.fk_core.specs.declared.op.CoreOp.{CoreOp}
 use Rattle.fk_core.specs.Next.{Position, next}
 use Rattle.fk_lockstep_nodes.specs.Steps.{stepping}
-use Rattle.fk_lockstep_tree.specs.Steps.{AreKnown}
 use Rattle.fk_lockstep_tree.proofs.Waiters.{waiters_resume}
 use Rattle.fk_lockstep_tree.specs.Ranges.{ranges_of}
-use Rattle.fk_replay_rounds.specs.Fits.{all_fit_below, AreThere}
+use Rattle.fk_replay_rounds.specs.Fits.{all_fit_below}
 use Rattle.fk_replay_rounds.specs.Stops as stops
 use Rattle.fk_replay_rounds.specs.Stops.{joint_up_to, IsTogether, FaultsLast, StopsTell, FaultsOfTheLastStop}
 use Rattle.fk_replay_rounds.proofs.Joints.{asking_joints, request_joints, fit_whole, absent_asking, absent_requests}
-use Rattle.fk_replay_steps.specs.Steps.{step_at, callers_of, runner_of, position_of}
 use Rattle.fk_replay_phases.specs.declared.phases.Fault as code
 use Rattle.fk_replay_phases.specs.declared.actor.Actor.{Actor}
-use Rattle.fk_replay_phases.specs.Actors.{acting_of, actings_of, due_of, runners_of, fault_of, HaveBegun, HaveAsked}
-use Rattle.fk_replay_phases.specs.Joints.{joint_at, joint_by, joint_next}
+use Rattle.fk_replay_phases.specs.Actors.{acting_of, actings_of, runners_of, fault_of, HaveBegun, HaveAsked}
+use Rattle.fk_replay_phases.specs.Joints.{joint_at, joint_by}
 use Rattle.fk_replay_run.specs.Steady.{IsSteady}
 use Rattle.fk_replay_take.specs.Asked.{AreServed}
 

@@ -1,14 +1,12 @@
 -- What the calls of a round ask for.
-use Rattle.std.proofs.Common.{◌≡◌, ◌≢◌, ℕ, zero, suc, ◌+◌, ◌<◌, ◌≤◌, Bool, true, false, ◌&&◌, ◌⊎◌, inl, inr, List, [], ◌∷◌, length, map, Option, Some, None, ap, refl, sym, ◌∙◌, subst, arith}
+use Rattle.std.proofs.Common.{◌≡◌, ℕ, zero, suc, ◌+◌, ◌<◌, ◌≤◌, Bool, true, false, ◌&&◌, List, [], ◌∷◌, length, map, Option, Some, None, ap, refl, sym, ◌∙◌, subst, arith}
 use Rattle.std.specs.Prelude.{◌==◌, ◌||◌, nat_le, slice_index, slice_get, option_map, if◌then◌else◌}
 use Rattle.fk_tree.specs.Tree as t
 use Rattle.fk_tree.specs.Tree.{Tree, is_member}
-use Rattle.fk_tree.specs.Sound.{IsSound, Has}
-use Rattle.fk_tree.specs.declared.node.Kind.TheVariants.{Waiting}
+use Rattle.fk_tree.specs.Sound.{IsSound}
 use Rattle.fk_trace.specs.declared.column.Column.TheVariants.{Counts}
 use Rattle.fk_trace.specs.Text.{Range}
 use Rattle.fk_meaning_store.specs.Store.{Store}
-use Rattle.fk_meaning_state.specs.View.{processor_of}
 use Rattle.fk_meaning.specs.Processor.{Setting}
 use Rattle.fk_meaning.specs.Round as rounds
 use Rattle.fk_meaning.specs.Round.{Acting, State, Round, taking, asking, all_requests, lowest, highest}
@@ -17,7 +15,7 @@ use Rattle.fk_core.specs.Next.{Position, next}
 use Rattle.fk_lockstep_nodes.specs.Steps.{stepping}
 use Rattle.fk_replay_text.specs.Trace as trace
 use Rattle.fk_replay_text.specs.Rounds.{count_in, counts_from, round_of}
-use Rattle.fk_replay_rounds.specs.Own.{IsOwn, AreOwn}
+use Rattle.fk_replay_rounds.specs.Own.{AreOwn}
 use Rattle.fk_replay_rounds.specs.Fits.{AreThere}
 use Rattle.fk_replay_rounds.proofs.Own.{keep}
 use Rattle.fk_replay_rounds.proofs.Joints.{absent_asking, absent_requests}
@@ -65,9 +63,6 @@ numbers_map tree (n ∷ ns) = ap (λ ms. n ∷ ms) (numbers_map tree ns)
 
 pub numbers_are : (tree : Tree) (acting : List acts.Acting) (counts : Round) → acting ≡ all_acting tree (present 0 counts) → numbers_of acting ≡ present 0 counts
 numbers_are tree acting counts is = ap numbers_of is ∙ numbers_map tree (present 0 counts)
-
-pub acting_by_numbers : (tree : Tree) (acting : List acts.Acting) (counts : Round) → acting ≡ all_acting tree (present 0 counts) → acting ≡ all_acting tree (numbers_of acting)
-acting_by_numbers tree acting counts is = is ∙ ap (all_acting tree) (sym (numbers_are tree acting counts is))
 
 get_map : {A B : Type 0} (f : A → B) (xs : List A) (n : ℕ) → slice_get (map f xs) n ≡ option_map f (slice_get xs n)
 get_map f [] n = refl

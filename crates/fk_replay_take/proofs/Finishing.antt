@@ -1,12 +1,11 @@
 -- A round without a fault, in which all fit together: what is asked for by the steps of the tree, and
 -- what they make of it.
-use Rattle.std.proofs.Common.{◌≡◌, ◌≢◌, ℕ, zero, suc, ◌+◌, ◌<◌, ◌≤◌, ◌^◌, Bool, true, false, ◌⊎◌, inl, inr, List, [], ◌∷◌, length, map, Option, Some, None, ap, refl, sym, ◌∙◌, subst, arith}
+use Rattle.std.proofs.Common.{◌≡◌, ℕ, zero, suc, ◌+◌, ◌<◌, ◌≤◌, ◌^◌, Bool, true, false, List, [], ◌∷◌, length, Option, Some, None, ap, refl, sym, ◌∙◌, subst, arith}
 use Rattle.std.specs.Prelude.{slice_index, slice_get, option_map, vec_len}
 use Rattle.std.proofs.lemmas.List.{length-map}
 use Rattle.std.proofs.lemmas.Option.{slice_get-map}
 use Rattle.fk_tree.specs.Tree as t
 use Rattle.fk_tree.specs.Sound.{IsSound}
-use Rattle.fk_tree.specs.declared.node.Kind.{Kind}
 use Rattle.fk_tree.specs.declared.node.Kind.TheVariants.{Lockstep, Waiting}
 use Rattle.fk_tree.specs.declared.tree.Tree as code_tree
 use Rattle.fk_tree.specs.View.{tree_of, processors}
@@ -15,14 +14,14 @@ use Rattle.fk_meaning_operation.specs.declared.operation.Operation.{Operation}
 use Rattle.fk_meaning_operation.specs.declared.operation.Operation.TheVariants as o
 use Rattle.fk_meaning_operation.specs.declared.kinds.Joint.TheVariants.{Resuming}
 use Rattle.fk_meaning_store.specs.View.{store_of, processors_of}
-use Rattle.fk_meaning_state.specs.View.{setting_of, processor_of}
+use Rattle.fk_meaning_state.specs.View.{setting_of}
 use Rattle.fk_meaning.specs.Processor.{Setting}
 use Rattle.fk_meaning.specs.Round as rounds
 use Rattle.fk_meaning.specs.Round.{State, Round, Acting, joint_due, begin_all, result, is_possible, all_fit, all_changes, settled, who}
 use Rattle.fk_core.specs.declared.op.CoreOp.{CoreOp}
 use Rattle.fk_core.specs.Next.{Position, next}
 use Rattle.fk_lockstep.specs.Untouched.{changes_tree}
-use Rattle.fk_lockstep_nodes.specs.Steps.{KeepsOrDoes, NodesStep, stepping}
+use Rattle.fk_lockstep_nodes.specs.Steps.{KeepsOrDoes, NodesStep}
 use Rattle.fk_lockstep_nodes.proofs.Nodes.{nodes_step}
 use Rattle.fk_lockstep_tree.specs.Steps.{StepFits, AreKnown}
 use Rattle.fk_replay_rounds.specs.Own.{AreOwn}
@@ -32,7 +31,7 @@ use Rattle.fk_replay_steps.specs.declared.list.Due.{Due}
 use Rattle.fk_replay_phases.specs.declared.acting.Acting as acts
 use Rattle.fk_replay_phases.specs.declared.actor.Actor.{Actor}
 use Rattle.fk_replay_phases.specs.Present.{AreNone, AreBelow, AreHighBelow, present, numbers_of, all_acting}
-use Rattle.fk_replay_phases.specs.Actors.{acting_of, actings_of, due_of, runners_of, AreInRound, AreReady}
+use Rattle.fk_replay_phases.specs.Actors.{acting_of, actings_of, runners_of, AreInRound, AreReady}
 use Rattle.fk_replay_phases.specs.Joints.{joint_by, joint_at}
 use Rattle.fk_replay_trees.specs.Changes.{CanChange, ModesFollow}
 use Rattle.fk_replay_trees.specs.Settled.{HaveSettled}
@@ -46,7 +45,7 @@ use Rattle.fk_replay_take.proofs.Facts.{free_after, own_after, high_below, prese
 use Rattle.fk_replay_take.proofs.Known.{tells, can_change, modes_follow}
 use Rattle.fk_replay_take.proofs.Served as served
 use Rattle.fk_replay_take.proofs.Forgetting.{has_forgotten}
-use Rattle.fk_replay_take.proofs.Taking.{Sizes, is_done, is_neither_fitting}
+use Rattle.fk_replay_take.proofs.Taking.{is_done, is_neither_fitting}
 
 -- what the change of the tree asks for
 pub record ChangesTree (tree : code_tree.Tree) (acting : List acts.Acting) (actors : List Actor) : Type 0 where
@@ -88,7 +87,7 @@ module _ (core : List CoreOp) (round : Round) (old now : Run) (x : IsAsked core 
   abbrev Fit : Bool → Type 0
   Fit b = all_fit round (rounds.joint_at (begin_all (next core) set round s.runners)) tree 0 round ≡ b
 
-  sound : IsSound p tree
+  pub sound : IsSound p tree
   sound = subst (λ (n : ℕ). IsSound n tree) x.run.setting x.steady.stands.sound
 
   pub fit : (b : Bool) → fits_now ≡ b → Fit b
@@ -215,6 +214,12 @@ module _ (core : List CoreOp) (round : Round) (old now : Run) (x : IsAsked core 
       (nodes_step A tree p sound k.does k.may (length-map after (acting_of core) ∙ many) k.steps) in
       modes_follow core tree after p sound many k (tree_of new) steps (served.have_modes tree old.actors.items after x.modes x.run.modes)
       (λ h a is. (own.each h (runner_of a.runner) (slice_get-map (λ (b : Actor). runner_of b.runner) after h ∙ ap (option_map (λ (b : Actor). runner_of b.runner)) is)).number)
+
+  -- those in the round by the tree before it
+  pub at_old : (acting : List acts.Acting) → acting ≡ now.acting.items → acting ≡ all_acting tree (numbers_of acting)
+  at_old acting e =
+      subst (λ (xs : List acts.Acting). xs ≡ all_acting tree (numbers_of xs)) (sym e)
+      (x.acting ∙ ap (all_acting tree) (sym (served.numbers core round old now None x)))
 
   -- ---- the answer
 

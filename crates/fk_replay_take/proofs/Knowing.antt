@@ -1,12 +1,10 @@
 -- Who is known to be able once a round has been done and its processors have left.
-use Rattle.std.proofs.Common.{◌≡◌, ℕ, zero, suc, ◌+◌, ◌<◌, ◌≤◌, Bool, true, false, ◌&&◌, ◌||◌, List, [], ◌∷◌, length, Option, None, is_some, ap, refl, sym, ◌∙◌, subst, arith}
+use Rattle.std.proofs.Common.{◌≡◌, ℕ, zero, suc, ◌+◌, ◌<◌, Bool, true, false, ◌&&◌, ◌||◌, List, [], ◌∷◌, length, is_some, ap, refl, sym, ◌∙◌, subst, arith}
 use Rattle.std.specs.Prelude.{◌==◌, nat_lt, slice_index}
 use Rattle.fk_tree.specs.Tree.{is_member}
 use Rattle.fk_tree.specs.Sound.{is_below_all, is_ascending}
-use Rattle.fk_tree.specs.View.{processors}
 use Rattle.fk_meaning_state.specs.View.{setting_of}
-use Rattle.fk_meaning.specs.Processor.{Setting}
-use Rattle.fk_meaning.specs.Round.{State, Round, is_possible, result}
+use Rattle.fk_meaning.specs.Round.{State, Round, result}
 use Rattle.fk_core.specs.declared.op.CoreOp.{CoreOp}
 use Rattle.fk_core.specs.Next.{Position, next, landing}
 use Rattle.fk_replay_counts.specs.Steady.{IsSteadyInTree}

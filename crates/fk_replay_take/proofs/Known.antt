@@ -1,6 +1,6 @@
 -- What is known of the steps of a possible round allows the changes of the tree, and tells the modes
 -- after it.
-use Rattle.std.proofs.Common.{◌≡◌, ◌≢◌, ℕ, zero, suc, ◌+◌, ◌-◌, ◌^◌, ◌<◌, ◌≤◌, min, Bool, true, false, ◌&&◌, ◌||◌, not, ◌⊎◌, inl, inr, List, [], ◌∷◌, length, map, Option, Some, None, ap, refl, sym, ◌∙◌, subst, arith}
+use Rattle.std.proofs.Common.{◌≡◌, ◌≢◌, ℕ, zero, suc, ◌+◌, ◌-◌, ◌^◌, ◌<◌, ◌≤◌, min, Bool, true, false, ◌&&◌, ◌||◌, not, ◌⊎◌, inl, inr, List, [], ◌∷◌, length, Option, Some, None, ap, refl, sym, ◌∙◌, subst, arith}
 use Rattle.std.specs.Prelude.{◌==◌, nat_lt, nat_le, slice_get, filter, if◌then◌else◌, option_map}
 use Rattle.fk_tree.specs.Tree as t
 use Rattle.fk_tree.specs.Tree.{Tree, Node, is_member, is_from, is_in, node_of, with_node, with_kind, turned, left_by, place_in, first_part}
@@ -12,23 +12,22 @@ use Rattle.fk_meaning_operation.specs.declared.operation.Operation.TheVariants a
 use Rattle.fk_meaning_operation.specs.declared.operation.SplitKind.{SplitKind}
 use Rattle.fk_meaning_operation.specs.declared.operation.SplitKind.TheVariants as by
 use Rattle.fk_meaning.specs.Processor.{Processor, values, last, before}
-use Rattle.fk_meaning.specs.Group.{changes, parts, part, stays, is_taken, not_negative, goes_onward, is_first, enters}
-use Rattle.fk_meaning.specs.Round.{Round, Step, Acting, lowest, highest, who}
+use Rattle.fk_meaning.specs.Group.{parts, part, stays, is_taken, not_negative, goes_onward, enters}
+use Rattle.fk_meaning.specs.Round.{Acting, lowest, highest, who}
 use Rattle.fk_core.specs.declared.op.CoreOp.{CoreOp}
-use Rattle.fk_core.specs.Next.{Position}
 use Rattle.fk_lockstep.specs.Untouched.{changes_tree}
-use Rattle.fk_lockstep_nodes.specs.Steps.{Keeps, Does, KeepsOrDoes, StepsBy, MayStep, tree_by, NodesStep}
+use Rattle.fk_lockstep_nodes.specs.Steps.{Does, KeepsOrDoes, StepsBy, tree_by, NodesStep}
 use Rattle.fk_lockstep_tree.specs.Steps.{StepFits, AreKnown}
 use Rattle.fk_meaning_state.specs.View.{processor_of}
 use Rattle.fk_replay_rounds.specs.declared.mode.Mode.{Mode}
-use Rattle.fk_replay_rounds.specs.declared.mode.Mode.TheVariants.{Group, Apart, Alone}
+use Rattle.fk_replay_rounds.specs.declared.mode.Mode.TheVariants.{Group, Apart}
 use Rattle.fk_replay_rounds.specs.Modes.{mode_of}
 use Rattle.fk_replay_steps.specs.Steps.{step_at, callers_of}
 use Rattle.fk_replay_steps.specs.declared.list.Due.{Due}
 use Rattle.fk_replay_phases.specs.Actors.{acting_of, actings_of, due_of, AreReady}
 use Rattle.fk_replay_phases.specs.Modes.{HaveModes}
 use Rattle.fk_replay_phases.specs.declared.actor.Actor.{Actor}
-use Rattle.fk_replay_trees.specs.Changes.{has_of, has_by, Needs, HaveParts, CanStep, CanChange, entered_mode, resumed_mode, mode_after, mode_as, agreed_by, settled_mode, ModesFollow}
+use Rattle.fk_replay_trees.specs.Changes.{has_of, has_by, Needs, CanStep, CanChange, entered_mode, resumed_mode, mode_after, mode_as, agreed_by, settled_mode, ModesFollow}
 use Rattle.fk_replay_trees.proofs.Loop.{who_is, get_map}
 
 eq_true : (a b : ℕ) → a ≡ b → (a == b) ≡ true
@@ -169,8 +168,8 @@ module _ (core : List CoreOp) (tree : Tree) (actors : List Actor) (p : ℕ) (sou
     part_by g m d e le lt = steps.parts g m le (subst (λ x. m < (tree_by tree (who (actings_of core actors)) (steps.first g) g x).given) (sym e) lt)
         ∙ ap (λ x. (tree_by tree (who (actings_of core actors)) (steps.first g) g x).nodes m) e
 
-    kind_at : (h : ℕ) (m : ℕ) (node : Option Node) → new.places h ≡ m → new.nodes m ≡ node → mode_of (t.kind new (new.places h)) ≡ mode_of (t.kind_of node)
-    kind_at h m node place is = ap (λ (k : ℕ). mode_of (t.kind_of (new.nodes k))) place ∙ ap (λ n. mode_of (t.kind_of n)) is
+    kind_at : (h : ℕ) (m : ℕ) (found : Option Node) → new.places h ≡ m → new.nodes m ≡ found → mode_of (t.kind new (new.places h)) ≡ mode_of (t.kind_of found)
+    kind_at h m found place is = ap (λ (k : ℕ). mode_of (t.kind_of (new.nodes k))) place ∙ ap (λ n. mode_of (t.kind_of n)) is
 
     -- a node where nobody changes the tree
     quiet : (h : ℕ) → h < p → known.does (tree.places h) ≡ None → mode_of (t.kind new (new.places h)) ≡ mode_of (t.kind tree (tree.places h))
@@ -304,7 +303,7 @@ module _ (core : List CoreOp) (tree : Tree) (actors : List Actor) (p : ℕ) (sou
         member_place = place ∙ with_true (is_member h (t.members tree 0)) (place_in (tree.places h) (steps.first (tree.places h)) (first_part count h)) (tree.places h) has
 
         same_test : nat_lt h count ≡ nat_lt h value
-        same_test = let a' = all in test h value (length (t.members tree (tree.places h))) (omega arith)
+        same_test = let a' = all in let l' = lt in test h value (length (t.members tree (tree.places h))) (omega arith)
           where
             test : (h v m : ℕ) → h < m → nat_lt h (min v m) ≡ nat_lt h v
             test h v m lt' = grind arith

@@ -1,8 +1,9 @@
 -- The last processor of a round.
-use Rattle.std.proofs.Common.{◌≡◌, ℕ, zero, suc, ◌+◌, ◌<◌, ◌≤◌, Bool, true, false, List, [], ◌∷◌, ap, refl, sym, ◌∙◌, arith}
-use Rattle.std.specs.Prelude.{◌==◌, slice_index}
+use Rattle.std.proofs.Common.{◌≡◌, ℕ, zero, suc, ◌+◌, ◌-◌, ◌<◌, ◌≤◌, true, false, List, [], ◌∷◌, length, Some, None, ap, refl, sym, ◌∙◌, arith}
+use Rattle.std.specs.Prelude.{◌==◌, slice_index, slice_get}
 use Rattle.fk_meaning.specs.Round.{Round}
-use Rattle.fk_replay_phases.specs.Present.{present}
+use Rattle.fk_replay_phases.specs.Present.{present, numbers_of}
+use Rattle.fk_replay_phases.specs.declared.acting.Acting.{Acting}
 use Rattle.fk_replay_take.specs.Taken.{is_last_of}
 
 none_present : (n : ℕ) (xs : Round) (g : ℕ) → present n xs ≡ [] → slice_index xs g ≡ 0
@@ -57,3 +58,11 @@ is_last_one p n (suc k) (suc c ∷ xs) e lt none =
     let some = some_present (suc n) xs k lt in
     ap (λ (ms : List ℕ). is_last_of p (n ∷ ms)) some.2 ∙ sym (ap (is_last_of p) some.2)
     ∙ is_last_one p (suc n) k xs (omega arith) lt (λ g less. none (suc g) (omega arith))
+
+-- the number of the last element of a list of those who act
+pub last_number : (p : ℕ) (xs : List Acting) (x : Acting) → Some x ≡ slice_get xs (length xs - 1) → (x.number == p) ≡ is_last_of p (numbers_of xs)
+last_number p [] x e = absurd (let bad : Some x ≡ None = e in cc)
+last_number p (y ∷ []) x e = let is : Some x ≡ Some y = e in let same : x ≡ y = cc in ap (λ (z : Acting). z.number == p) same
+last_number p (y ∷ z ∷ zs) x e =
+    let less : length (y ∷ z ∷ zs) - 1 ≡ suc (length (z ∷ zs) - 1) = omega arith in
+    last_number p (z ∷ zs) x (e ∙ ap (slice_get (y ∷ z ∷ zs)) less)

@@ -1,12 +1,13 @@
 -- The ranges of a round, one after the other.
-use Rattle.std.proofs.Common.{◌≡◌, ◌≢◌, ℕ, zero, suc, ◌+◌, ◌-◌, ◌<◌, ◌≤◌, Bool, true, false, ◌&&◌, ◌⊎◌, inl, inr, List, [], ◌∷◌, ◌++◌, length, get_or, set, drop, map, Option, Some, None, ap, refl, sym, ◌∙◌, subst, arith}
+use Rattle.std.proofs.Common.{◌≡◌, ◌≢◌, ℕ, zero, suc, ◌+◌, ◌<◌, ◌≤◌, Bool, true, false, ◌&&◌, ◌⊎◌, inl, inr, List, [], ◌∷◌, ◌++◌, length, get_or, set, drop, map, Option, Some, None, ap, refl, sym, ◌∙◌, subst, arith}
 use Rattle.std.specs.Prelude.{nat_le, slice_index, if◌then◌else◌}
 use Rattle.std.proofs.lemmas.List.{length-set, drop_more, drop_all}
-use Rattle.fk_trace.specs.declared.column.Column.{Column}
 use Rattle.fk_trace.specs.declared.column.Column.TheVariants.{Counts}
 use Rattle.fk_trace.specs.Text.{Range}
 use Rattle.fk_meaning.specs.Round.{Round}
 use Rattle.fk_replay_text.specs.Trace as trace
+use Rattle.fk_replay_text.specs.View.{range_of}
+use Rattle.fk_replay_text.specs.declared.trace.Acts.{Acts}
 use Rattle.fk_replay_text.specs.Rounds.{count_in, counts_from}
 use Rattle.fk_tree.specs.Tree.{Tree}
 use Rattle.fk_replay_phases.specs.Present.{AreNone, present, all_acting, acting_at}
@@ -313,3 +314,13 @@ none_acting tree counts n none = sym (ap (all_acting tree) (none_present 0 count
 
 pub ranges_rise : (harts : ℕ) (ranges : List Range) → AreRanges harts ranges → trace.Rise Counts harts None ranges
 ranges_rise harts ranges are = are.1
+
+-- the range of an element, whatever stands for one that isn't there
+pub range_at : (acts : List Acts) (i : ℕ) (d : Acts) → i < length acts → range_of (get_or acts i d) ≡ get_or (map range_of acts) i (range_of (get_or acts i d))
+range_at [] i d lt = absurd (let z : ⊥ = omega arith in z)
+range_at (x ∷ acts) zero d lt = refl
+range_at (x ∷ acts) (suc i) d lt = range_at acts i d (omega arith)
+
+pub many_ranges : (acts : List Acts) → length (map range_of acts) ≡ length acts
+many_ranges [] = refl
+many_ranges (x ∷ acts) = ap suc (many_ranges acts)

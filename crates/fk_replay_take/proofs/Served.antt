@@ -1,19 +1,16 @@
 -- A run behind the requests of a round: what is asked for by the calls that follow.
-use Rattle.std.proofs.Common.{◌≡◌, ◌≢◌, ℕ, zero, suc, ◌+◌, ◌<◌, ◌≤◌, ◌^◌, Bool, true, false, ◌⊎◌, inl, inr, List, [], ◌∷◌, length, map, Option, Some, None, ap, refl, sym, ◌∙◌, subst, arith}
-use Rattle.std.specs.Prelude.{slice_index, slice_get, option_map, vec_len}
+use Rattle.std.proofs.Common.{◌≡◌, ℕ, zero, suc, ◌+◌, ◌<◌, ◌≤◌, ◌^◌, List, [], ◌∷◌, length, Option, Some, None, ap, refl, sym, ◌∙◌, subst, arith}
+use Rattle.std.specs.Prelude.{slice_index, slice_get}
 use Rattle.std.proofs.lemmas.List.{length-map}
 use Rattle.fk_tree.specs.Tree as t
 use Rattle.fk_tree.specs.declared.tree.Tree as code_tree
 use Rattle.fk_tree.specs.View.{tree_of, processors}
-use Rattle.fk_meaning_store.specs.Store.{Store}
 use Rattle.fk_meaning_store.specs.View.{store_of}
 use Rattle.fk_meaning_state.specs.View.{setting_of}
 use Rattle.fk_meaning.specs.Processor.{Setting}
-use Rattle.fk_meaning.specs.Round as rounds
 use Rattle.fk_meaning.specs.Round.{State, Round}
 use Rattle.fk_core.specs.declared.op.CoreOp.{CoreOp}
 use Rattle.fk_core.specs.Next.{Position, next}
-use Rattle.fk_replay_rounds.specs.declared.mode.Mode.{Mode}
 use Rattle.fk_replay_rounds.specs.Fits.{all_fit_below, AreThere}
 use Rattle.fk_replay_rounds.specs.Stops.{StopsTell}
 use Rattle.fk_replay_stops.proofs.Places.{same_length}
@@ -22,14 +19,13 @@ use Rattle.fk_replay_steps.specs.Steps.{runner_of}
 use Rattle.fk_replay_phases.specs.declared.phases.Fault.{Fault}
 use Rattle.fk_replay_phases.specs.declared.actor.Actor.{Actor}
 use Rattle.fk_replay_phases.specs.Present.{present, numbers_of, all_acting}
-use Rattle.fk_replay_phases.specs.Actors.{runners_of, modes_of, AreInRound}
+use Rattle.fk_replay_phases.specs.Actors.{modes_of, AreInRound}
 use Rattle.fk_replay_phases.specs.Joints.{joint_at}
 use Rattle.fk_replay_phases.specs.Modes.{HaveModes}
 use Rattle.fk_replay_rounds.specs.Modes.{mode_of}
 use Rattle.fk_replay_run.specs.declared.run.Run.{Run}
-use Rattle.fk_replay_run.specs.Steady.{IsSteady}
 use Rattle.fk_replay_run.specs.Runs.{state_of}
-use Rattle.fk_replay_take.specs.Asked.{AreServed, IsAsked}
+use Rattle.fk_replay_take.specs.Asked.{IsAsked}
 use Rattle.fk_replay_take.proofs.Composed.{together}
 use Rattle.fk_replay_take.proofs.Facts.{numbers_map, in_round_after, are_there}
 
@@ -39,19 +35,23 @@ pub modes_many : (xs ys : List Actor) → modes_of ys ≡ modes_of xs → length
 modes_many xs ys e = sym (length-map ys (λ (a : Actor). a.mode)) ∙ ap length e ∙ length-map xs (λ (a : Actor). a.mode)
 
 pub have_modes : (tree : t.Tree) (xs ys : List Actor) → modes_of ys ≡ modes_of xs → HaveModes tree xs → HaveModes tree ys
-have_modes tree xs ys e modes = record { each = λ h y is. at 0 xs ys e h y is (λ k x found. modes.each k x found) }
+have_modes tree xs ys e modes = record {
+  each = λ h y is.
+      at 0 xs ys e h y is (λ k x found. modes.each k x found ∙ ap (λ (n : ℕ). mode_of (t.kind tree (tree.places n))) (let n : k ≡ 0 + k = omega arith in n))
+      ∙ ap (λ (n : ℕ). mode_of (t.kind tree (tree.places n))) (let n : 0 + h ≡ h = omega arith in n);
+}
   where
-    at : (first : ℕ) (as bs : List Actor) → modes_of bs ≡ modes_of as → (h : ℕ) (y : Actor) → slice_get bs h ≡ Some y
-        → ((k : ℕ) (x : Actor) → slice_get as k ≡ Some x → x.mode ≡ mode_of (t.kind tree (tree.places (first + k)))) → y.mode ≡ mode_of (t.kind tree (tree.places (first + h)))
-    at first as [] same h y is each = absurd (let bad : None ≡ Some y = is in cc)
-    at first [] (b ∷ bs) same h y is each = absurd (let bad : b.mode ∷ modes_of bs ≡ [] = same in cc)
-    at first (a ∷ as) (b ∷ bs) same zero y is each =
-        let b_is : b ≡ y = cc in
-        let head : b.mode ≡ a.mode = cc in
-        ap (λ (z : Actor). z.mode) (sym b_is) ∙ head ∙ each 0 a refl
-    at first (a ∷ as) (b ∷ bs) same (suc h) y is each =
-        let tail : modes_of bs ≡ modes_of as = cc in
-        at (suc first) as bs tail h y is (λ k x found. each (suc k) x found ∙ ap (λ (n : ℕ). mode_of (t.kind tree (tree.places n))) (let n : first + suc k ≡ suc first + k = omega arith in n))
+    at : (first : ℕ) (bs ds : List Actor) → modes_of ds ≡ modes_of bs → (h : ℕ) (y : Actor) → slice_get ds h ≡ Some y
+        → ((k : ℕ) (x : Actor) → slice_get bs k ≡ Some x → x.mode ≡ mode_of (t.kind tree (tree.places (first + k)))) → y.mode ≡ mode_of (t.kind tree (tree.places (first + h)))
+    at first bs [] same h y is each = absurd (let bad : None ≡ Some y = is in cc)
+    at first [] (d ∷ ds) same h y is each = absurd (let bad : d.mode ∷ modes_of ds ≡ [] = same in cc)
+    at first (b ∷ bs) (d ∷ ds) same zero y is each =
+        let d_is : d ≡ y = cc in
+        let head : d.mode ≡ b.mode = cc in
+        ap (λ (z : Actor). z.mode) (sym d_is) ∙ head ∙ each 0 b refl
+    at first (b ∷ bs) (d ∷ ds) same (suc h) y is each =
+        let tail : modes_of ds ≡ modes_of bs = cc in
+        at (suc first) bs ds tail h y is (λ k x found. each (suc k) x found ∙ ap (λ (n : ℕ). mode_of (t.kind tree (tree.places n))) (let n : first + suc k ≡ suc first + k = omega arith in n))
         ∙ ap (λ (n : ℕ). mode_of (t.kind tree (tree.places n))) (let n : suc first + h ≡ first + suc h = omega arith in n)
 
 module _ (core : List CoreOp) (round : Round) (old now : Run) (fault : Option Fault) (x : IsAsked core round old now fault) where
@@ -137,3 +137,11 @@ module _ (core : List CoreOp) (round : Round) (old now : Run) (fault : Option Fa
       let many = round_many in
       let few = x.run.few in
       omega (arith, lt, many, few, high)
+
+  -- ---- what stays as it was
+
+  pub arrived_many : length old.arrived.items ≡ processors old.tree → length now.arrived.items ≡ processors now.tree
+  arrived_many e = ap (λ arrived. length arrived.items) x.arrived ∙ e ∙ sym (ap processors x.tree)
+
+  pub given_low : (tree_of old.tree).given + 2 ^ 28 < 2 ^ 63 → (tree_of now.tree).given + 2 ^ 28 < 2 ^ 63
+  given_low lt = subst (λ (tree : code_tree.Tree). (tree_of tree).given + 2 ^ 28 < 2 ^ 63) (sym x.tree) lt

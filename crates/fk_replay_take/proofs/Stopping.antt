@@ -1,5 +1,5 @@
 -- A round with a fault among its requests: whether the fault stops it.
-use Rattle.std.proofs.Common.{◌≡◌, ◌≢◌, ℕ, zero, suc, ◌+◌, ◌<◌, ◌≤◌, Bool, true, false, ◌⊎◌, inl, inr, List, [], ◌∷◌, length, Option, Some, None, ap, refl, sym, ◌∙◌, subst, arith}
+use Rattle.std.proofs.Common.{◌≡◌, ℕ, zero, suc, ◌+◌, ◌<◌, ◌≤◌, Bool, true, false, ◌⊎◌, inl, inr, List, [], ◌∷◌, length, Option, Some, None, ap, refl, sym, ◌∙◌, subst, arith}
 use Rattle.std.specs.Prelude.{slice_index, slice_get}
 use Rattle.fk_tree.specs.View.{tree_of}
 use Rattle.fk_meaning_store.specs.Store.{Store}
@@ -17,7 +17,6 @@ use Rattle.fk_replay_phases.specs.Present.{present, numbers_of}
 use Rattle.fk_replay_phases.specs.Actors.{runners_of, fault_of}
 use Rattle.fk_replay_phases.specs.Joints.{joint_at}
 use Rattle.fk_replay_run.specs.declared.run.Run.{Run}
-use Rattle.fk_replay_run.specs.Runs.{state_of}
 use Rattle.fk_replay_take.specs.Taken.{IsStoppedBy, IsNeither, is_last_of}
 use Rattle.fk_replay_take.specs.Asked.{IsAsked}
 use Rattle.fk_replay_take.proofs.Last.{behind_last, is_last_one}

@@ -1,33 +1,31 @@
 -- What a round makes of a run in memory.
-use Rattle.std.proofs.Common.{◌≡◌, ℕ, zero, suc, ◌+◌, ◌<◌, ◌≤◌, ◌^◌, Bool, true, false, List, [], ◌∷◌, length, Option, Some, None, ap, refl, sym, ◌∙◌, subst, arith}
-use Rattle.std.specs.Prelude.{slice_index, slice_get, option_map, vec_len}
+use Rattle.std.proofs.Common.{◌≡◌, ℕ, ◌+◌, ◌<◌, ◌≤◌, ◌^◌, true, false, List, length, Some, None, ap, refl, sym, ◌∙◌, subst, arith}
+use Rattle.std.specs.Prelude.{slice_index, vec_len}
 use Rattle.fk_tree.specs.Tree.{Tree}
 use Rattle.fk_tree.specs.View.{tree_of, processors}
 use Rattle.fk_meaning_store.specs.Store.{Store}
 use Rattle.fk_meaning_store.specs.View.{store_of, processors_of}
 use Rattle.fk_meaning_state.specs.View.{setting_of}
-use Rattle.fk_meaning.specs.Processor.{Setting}
 use Rattle.fk_meaning.specs.Round as rounds
 use Rattle.fk_meaning.specs.Round.{Runner, State, Round, Fault, all_changes, settled, tree_phase, result, all_fit, begin_all, is_possible, IsStopped}
 use Rattle.fk_core.specs.declared.op.CoreOp.{CoreOp}
 use Rattle.fk_core.specs.Next.{Position, next}
-use Rattle.fk_replay_rounds.specs.Own.{AreOwn, KeepOwn}
+use Rattle.fk_replay_rounds.specs.Own.{AreOwn}
 use Rattle.fk_replay_rounds.proofs.Own.{keep}
 use Rattle.fk_replay_rounds.specs.Fits.{all_fit_below}
-use Rattle.fk_replay_rounds.specs.Stops.{joint_up_to, FaultsLast, StopsTell}
+use Rattle.fk_replay_rounds.specs.Stops.{StopsTell}
 use Rattle.fk_replay_phases.specs.declared.phases.Fault as code
 use Rattle.fk_replay_phases.specs.declared.actor.Actor.{Actor}
 use Rattle.fk_replay_phases.specs.Present.{AreNone, present, numbers_of}
-use Rattle.fk_replay_phases.specs.Actors.{actings_of, runners_of, fault_of, HaveNone}
+use Rattle.fk_replay_phases.specs.Actors.{actings_of, runners_of, fault_of}
 use Rattle.fk_replay_phases.specs.Joints.{joint_at}
-use Rattle.fk_replay_phases.specs.Modes.{HaveModes}
 use Rattle.fk_replay_trees.specs.Settled.{HaveSettled}
 use Rattle.fk_replay_run.specs.declared.run.Run.{Run}
 use Rattle.fk_replay_run.specs.Steady.{IsSteady}
 use Rattle.fk_replay_take.specs.Asked.{AreServed}
 use Rattle.fk_replay_run.specs.Runs.{state_of, IsRun}
-use Rattle.fk_replay_take.specs.Taken.{set_in, HasForgotten, IsDone, IsStoppedBy, IsNeither}
-use Rattle.fk_replay_take.proofs.Composed.{result_is, together, joints_up_to, is_it_possible, not_begun, not_fitting, not_stopping}
+use Rattle.fk_replay_take.specs.Taken.{HasForgotten, IsDone, IsStoppedBy, IsNeither}
+use Rattle.fk_replay_take.proofs.Composed.{result_is, joints_up_to, is_it_possible, not_begun, not_fitting, not_stopping}
 
 abbrev made : Store → Tree → List (Runner Position) → State Position
 made st tree rs = record { store = st; tree = tree; runners = rs; fault = None }

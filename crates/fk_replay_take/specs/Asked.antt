@@ -1,5 +1,5 @@
 -- A run in memory behind the requests of a round, before the steps of the tree.
-use Rattle.std.specs.Prelude.{◌≡◌, ℕ, true, false, List, Option, Some, None, option_map}
+use Rattle.std.specs.Prelude.{◌≡◌, true, false, List, Option, Some, None, option_map}
 use Rattle.fk_tree.specs.View.{tree_of}
 use Rattle.fk_meaning_store.specs.Store.{Store}
 use Rattle.fk_meaning_store.specs.View.{store_of, processors_of}

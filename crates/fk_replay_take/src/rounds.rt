@@ -18,10 +18,10 @@ ghost use Rattle.fk_replay_take.specs.Taken.{IsTaken, is_last_of};
 ghost use Rattle.fk_replay_take.specs.Asked.{IsAsked, IsAskedAs, IsSomeAsked};
 
 use crate::enlist::enlist;
-use fk_replay_run::Run;
 use fk_core::CoreOp;
 use fk_replay_arrivals::forget_all;
 use fk_replay_phases::{Fault, all_fit, begin_all, dismiss, do_requests};
+use fk_replay_run::Run;
 use fk_replay_text::Acts;
 use fk_replay_trees::{change_all, settle_all};
 use std::alloc::AllocError;
@@ -36,11 +36,7 @@ pub enum Outcome {
 }
 
 /// Does a round. After one that isn't possible the state is of no use.
-pub fn take_round(
-    run: &mut Run,
-    ops: &[CoreOp],
-    acts: &[Acts],
-) -> Result<Outcome, AllocError>
+pub fn take_round(run: &mut Run, ops: &[CoreOp], acts: &[Acts]) -> Result<Outcome, AllocError>
     requires few { length ops.now < 2 ^ 32 }
     requires run { IsRun run.old }
     requires ranges { AreRanges (processors run.old.tree) (map range_of acts.now) }
@@ -52,7 +48,7 @@ pub fn take_round(
 {
     match ask(run, ops, acts)? {
         Outcome::Possible => finish(run, ops),
-        Outcome::Stopped(fault) => Ok(stop(run, ops, fault)),
+        Outcome::Stopped(first) => Ok(stop(run, ops, first)),
         Outcome::NotPossible => Ok(Outcome::NotPossible),
     }
 }
@@ -139,13 +135,5 @@ fn fit(run: &Run, ops: &[CoreOp], last: u32) -> bool
         (joint_at ops.now run.now.actors.items last)
         (tree_of run.now.tree) 0 run.now.counts.items }
 {
-    all_fit(
-        ops,
-        &run.tree,
-        &run.counts,
-        &run.actors,
-        &run.acting,
-        last,
-    )
+    all_fit(ops, &run.tree, &run.counts, &run.actors, &run.acting, last)
 }
-

@@ -1,17 +1,16 @@
 -- The steps of several nodes, which their lowest members bring to the tree one after the other.
-use Rattle.std.proofs.Common.{◌≡◌, ◌≢◌, ℕ, zero, suc, ◌+◌, ◌-◌, ◌*◌, ◌^◌, ◌<◌, ◌≤◌, min, Bool, true, false, ◌&&◌, ◌||◌, not, ◌⊎◌, inl, inr, List, [], ◌∷◌, length, get_or, drop, map, Option, Some, None, ap, refl, sym, ◌∙◌, subst, arith}
-use Rattle.std.specs.Prelude.{◌==◌, nat_lt, nat_le, slice_index, slice_get, if◌then◌else◌, option_map, is_none}
+use Rattle.std.proofs.Common.{◌≡◌, ◌≢◌, ℕ, zero, suc, ◌+◌, ◌^◌, ◌<◌, ◌≤◌, min, Bool, true, false, ◌&&◌, ◌⊎◌, inl, inr, length, Option, Some, None, ap, refl, sym, ◌∙◌, arith}
+use Rattle.std.specs.Prelude.{◌==◌, nat_lt, nat_le, if◌then◌else◌, is_none}
 use Rattle.fk_tree.specs.Tree as t
 use Rattle.fk_tree.specs.Tree.{Tree, Node, is_member, is_from, with_node, with_kind, turned, left_by, has_ended, have_ended}
-use Rattle.fk_tree.specs.Sound.{IsSound, Has, awaits}
+use Rattle.fk_tree.specs.Sound.{IsSound, awaits}
 use Rattle.fk_tree.specs.declared.node.Kind.{Kind}
 use Rattle.fk_tree.specs.declared.node.Kind.TheVariants.{Lockstep, Waiting, Asynchronous}
 use Rattle.fk_meaning_operation.specs.declared.operation.Operation.{Operation}
 use Rattle.fk_meaning_operation.specs.declared.operation.Operation.TheVariants as o
 use Rattle.fk_meaning_operation.specs.declared.operation.SplitKind.{SplitKind}
-use Rattle.fk_meaning.specs.Processor.{Processor, values, last}
+use Rattle.fk_meaning.specs.Processor.{Processor, values}
 use Rattle.fk_meaning.specs.Group.{changes, parts, part, stays, not_negative}
-use Rattle.fk_meaning.specs.Round.{Round, lowest}
 use Rattle.fk_replay_trees.specs.Changes.{Needs}
 
 pub eq_false : (a b : ℕ) → a ≢ b → (a == b) ≡ false

@@ -6,26 +6,23 @@ use Rattle.std.proofs.lemmas.List.{drop_all, length-map}
 use Rattle.std.proofs.lemmas.Option.{get_or_from_slice_get}
 use Rattle.fk_tree.specs.Tree as t
 use Rattle.fk_tree.specs.Tree.{Tree, is_member}
-use Rattle.fk_tree.specs.Sound.{IsSound, Has}
+use Rattle.fk_tree.specs.Sound.{IsSound}
 use Rattle.fk_meaning_operation.specs.declared.operation.Operation.{Operation}
 use Rattle.fk_meaning_operation.specs.declared.operation.Operation.TheVariants as o
-use Rattle.fk_meaning_operation.specs.declared.operation.SplitKind.{SplitKind}
-use Rattle.fk_meaning_state.specs.View.{processor_of}
 use Rattle.fk_meaning.specs.Processor.{Processor, values, last}
 use Rattle.fk_meaning.specs.Group.{changes, parts}
-use Rattle.fk_meaning.specs.Round as rounds
-use Rattle.fk_meaning.specs.Round.{Round, Step, Acting, lowest, highest, who, nobody, agreed, change_by, all_changes}
+use Rattle.fk_meaning.specs.Round.{Step, Acting, lowest, highest, who, agreed, change_by, all_changes}
 use Rattle.fk_core.specs.declared.op.CoreOp.{CoreOp}
 use Rattle.fk_core.specs.Next.{Position}
-use Rattle.fk_replay_rounds.specs.Own.{IsOwn, AreOwn}
+use Rattle.fk_replay_rounds.specs.Own.{AreOwn}
 use Rattle.fk_replay_steps.specs.Steps.{step_at, callers_of, runner_of}
 use Rattle.fk_replay_steps.specs.declared.list.Due.{Due}
 use Rattle.fk_replay_phases.specs.declared.acting.Acting as acts
 use Rattle.fk_replay_phases.specs.declared.actor.Actor.{Actor}
 use Rattle.fk_replay_phases.specs.Present.{present, numbers_of, acting_at}
 use Rattle.fk_replay_phases.specs.Actors.{acting_of, actings_of, due_of, runners_of, AreInRound}
-use Rattle.fk_replay_phases.proofs.Present.{IsNext, IsNextActing, next_acting, none_acting}
-use Rattle.fk_replay_trees.specs.Changes.{has_of, has_by, Needs, HaveParts, CanStep, CanChange}
+use Rattle.fk_replay_phases.proofs.Present.{next_acting, none_acting}
+use Rattle.fk_replay_trees.specs.Changes.{has_of, Needs, CanStep, CanChange}
 use Rattle.fk_replay_trees.proofs.Changing.{eq_false, beside, stays_ended, gives_few, needs_still, IsAsBefore}
 
 -- the processor with a number, as the meaning finds it

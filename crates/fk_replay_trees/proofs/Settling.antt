@@ -1,11 +1,11 @@
 -- The members of nodes do their own parts of steps, one after the other.
-use Rattle.std.proofs.Common.{◌≡◌, ℕ, zero, suc, ◌+◌, ◌<◌, ◌≤◌, Bool, true, false, ◌⊎◌, inl, inr, List, [], ◌∷◌, length, get_or, set, drop, map, Option, Some, None, ap, refl, sym, ◌∙◌, subst, arith}
+use Rattle.std.proofs.Common.{◌≡◌, ℕ, suc, ◌+◌, ◌<◌, ◌≤◌, Bool, true, false, List, [], ◌∷◌, length, get_or, set, drop, map, Option, Some, None, ap, refl, sym, ◌∙◌, arith}
 use Rattle.std.specs.Prelude.{◌==◌, nat_lt, ◌&&◌, ◌||◌, slice_index, slice_get, option_map}
 use Rattle.std.proofs.lemmas.Bool.{eqb-true, eq-eqb}
 use Rattle.std.proofs.lemmas.List.{length-set}
 use Rattle.fk_tree.specs.Tree as t
 use Rattle.fk_tree.specs.Tree.{Tree, is_member}
-use Rattle.fk_tree.specs.Sound.{IsSound, Has, is_ascending, is_below_all}
+use Rattle.fk_tree.specs.Sound.{IsSound, is_ascending, is_below_all}
 use Rattle.fk_meaning.specs.Processor.{Processor, values, last}
 use Rattle.fk_meaning.specs.Round as rounds
 use Rattle.fk_meaning.specs.Round.{Round, Step, Acting, lowest, highest, who, agreed, settled, settled_by}
@@ -14,15 +14,13 @@ use Rattle.fk_core.specs.Next.{Position}
 use Rattle.fk_replay_rounds.specs.Own.{AreOwn}
 use Rattle.fk_replay_rounds.specs.Modes.{mode_of}
 use Rattle.fk_replay_steps.specs.Steps.{step_at, callers_of, runner_of}
-use Rattle.fk_replay_steps.specs.declared.list.Due.{Due}
 use Rattle.fk_replay_phases.specs.declared.acting.Acting as acts
 use Rattle.fk_replay_phases.specs.declared.actor.Actor.{Actor}
 use Rattle.fk_replay_phases.specs.Present.{present, numbers_of, acting_at}
-use Rattle.fk_replay_phases.specs.Actors.{acting_of, actings_of, due_of, runners_of, AreInRound, HaveNone}
-use Rattle.fk_replay_phases.specs.Modes.{HaveModes}
-use Rattle.fk_replay_phases.proofs.Present.{IsNext, IsNextActing, next_acting, none_acting}
+use Rattle.fk_replay_phases.specs.Actors.{actings_of, due_of, runners_of, AreInRound}
+use Rattle.fk_replay_phases.proofs.Present.{next_acting, none_acting}
 use Rattle.fk_replay_phases.proofs.Sparse.{SoFar, begun, more, at_end, get_set_other}
-use Rattle.fk_replay_trees.specs.Changes.{has_of, has_by, agreed_by, mode_as, settled_mode, ModesFollow}
+use Rattle.fk_replay_trees.specs.Changes.{has_of, has_by, agreed_by, mode_as, ModesFollow}
 use Rattle.fk_replay_trees.specs.Settled.{settled_as, HasSettled, HaveSettled}
 use Rattle.fk_replay_trees.proofs.Loop.{who_is, get_map, element_of}
 

@@ -1,5 +1,5 @@
 -- One more begins.
-use Rattle.std.proofs.Common.{◌≡◌, ℕ, ◌<◌, ◌≤◌, length, arith}
+use Rattle.std.proofs.Common.{◌<◌, ◌≤◌, length, arith}
 use Rattle.fk_replay_arrivals.proofs.Begun.{none_begin, begins_more, begins_all}
 use Rattle.fk_replay_arrivals.proofs.arrivals.begin_all.Goals as goal
 

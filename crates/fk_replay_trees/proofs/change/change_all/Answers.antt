@@ -1,4 +1,4 @@
-use Rattle.std.proofs.Common.{◌≡◌, ℕ, ◌+◌, ◌*◌, ◌^◌, ◌<◌, ◌≤◌, inl, inr, List, length, get_or, ◌∙◌, arith}
+use Rattle.std.proofs.Common.{◌<◌, ◌≤◌, inl, inr, length, get_or, ◌∙◌, arith}
 use Rattle.fk_tree.specs.View.{tree_of, processors}
 use Rattle.fk_replay_phases.specs.declared.acting.Acting.{Acting}
 use Rattle.fk_replay_phases.proofs.Highest.{element}
@@ -162,29 +162,32 @@ loop-member-preserved c =
     let lt : i < length c.args.acting.now = c.loop-member-test.true in
     let is = element c.args.acting.now i nobody lt in
     elim c.if-member.branch [
-      | then-member+in-Some+in_ok-change w ↦ rw w.tree-is
-          (w.change.ensures.processors ∙ c.loop-member.invariant.0,
-          λ given.
-              let at = c.loop-member.invariant.1 given in
-              let bound = next_below (processors c.args.tree.now) (tree_of c.args.tree.now) c.args.acting.now c.args.actors.now given i now x at lt is in
-              let a = there_is c.args.actors.now x.number bound.0 in
-              changes_more (processors c.args.tree.now) (tree_of c.args.tree.now) c.args.acting.now c.args.actors.now given i now (tree_of w.change.new.tree) x a.0 w.in-Some.due at lt is a.1
-              (taken_at (processors c.args.tree.now) (tree_of c.args.tree.now) c.args.acting.now c.args.actors.now given x.number _ a.0 w.in-Some.due a.1 w.in-Some.is)
-              w.if-member.true w.in_ok-change.ensures.tree)
-      | then-member+in_default w ↦ rw w.tree-is
-          (c.loop-member.invariant.0,
-          λ given.
-              let at = c.loop-member.invariant.1 given in
-              let bound = next_below (processors c.args.tree.now) (tree_of c.args.tree.now) c.args.acting.now c.args.actors.now given i now x at lt is in
-              let a = there_is c.args.actors.now x.number bound.0 in
-              changes_idle (processors c.args.tree.now) (tree_of c.args.tree.now) c.args.acting.now c.args.actors.now given i now x a.0 at lt is a.1
-              (inl (none_at (processors c.args.tree.now) (tree_of c.args.tree.now) c.args.acting.now c.args.actors.now given x.number _ a.0 a.1 w.in_default.not-Some)))
-      | else-member w ↦ rw w.tree-is
-          (c.loop-member.invariant.0,
-          λ given.
-              let at = c.loop-member.invariant.1 given in
-              let bound = next_below (processors c.args.tree.now) (tree_of c.args.tree.now) c.args.acting.now c.args.actors.now given i now x at lt is in
-              let a = there_is c.args.actors.now x.number bound.0 in
-              changes_idle (processors c.args.tree.now) (tree_of c.args.tree.now) c.args.acting.now c.args.actors.now given i now x a.0 at lt is a.1
-              (inr (not_lowest (processors c.args.tree.now) (tree_of c.args.tree.now) c.args.acting.now c.args.actors.now given i x lt is w.if-member.false)))
+      | then-member+in-Some+in_ok-change w ↦ rw w.tree-is (
+        w.change.ensures.processors ∙ c.loop-member.invariant.0,
+        λ given.
+            let at = c.loop-member.invariant.1 given in
+            let bound = next_below (processors c.args.tree.now) (tree_of c.args.tree.now) c.args.acting.now c.args.actors.now given i now x at lt is in
+            let a = there_is c.args.actors.now x.number bound.0 in
+            changes_more (processors c.args.tree.now) (tree_of c.args.tree.now) c.args.acting.now c.args.actors.now given i now (tree_of w.change.new.tree) x a.0 w.in-Some.due at lt is a.1
+            (taken_at (processors c.args.tree.now) (tree_of c.args.tree.now) c.args.acting.now c.args.actors.now given x.number _ a.0 w.in-Some.due a.1 w.in-Some.is)
+            w.if-member.true w.in_ok-change.ensures.tree,
+      )
+      | then-member+in_default w ↦ rw w.tree-is (
+        c.loop-member.invariant.0,
+        λ given.
+            let at = c.loop-member.invariant.1 given in
+            let bound = next_below (processors c.args.tree.now) (tree_of c.args.tree.now) c.args.acting.now c.args.actors.now given i now x at lt is in
+            let a = there_is c.args.actors.now x.number bound.0 in
+            changes_idle (processors c.args.tree.now) (tree_of c.args.tree.now) c.args.acting.now c.args.actors.now given i now x a.0 at lt is a.1
+            (inl (none_at (processors c.args.tree.now) (tree_of c.args.tree.now) c.args.acting.now c.args.actors.now given x.number _ a.0 a.1 w.in_default.not-Some)),
+      )
+      | else-member w ↦ rw w.tree-is (
+        c.loop-member.invariant.0,
+        λ given.
+            let at = c.loop-member.invariant.1 given in
+            let bound = next_below (processors c.args.tree.now) (tree_of c.args.tree.now) c.args.acting.now c.args.actors.now given i now x at lt is in
+            let a = there_is c.args.actors.now x.number bound.0 in
+            changes_idle (processors c.args.tree.now) (tree_of c.args.tree.now) c.args.acting.now c.args.actors.now given i now x a.0 at lt is a.1
+            (inr (not_lowest (processors c.args.tree.now) (tree_of c.args.tree.now) c.args.acting.now c.args.actors.now given i x lt is w.if-member.false)),
+      )
     ]

@@ -1,4 +1,4 @@
-use Rattle.std.proofs.Common.{◌≡◌, ℕ, ◌+◌, ◌^◌, ◌<◌, List, Option, map, length, ap, sym, ◌∙◌, subst, arith}
+use Rattle.std.proofs.Common.{◌≡◌, ℕ, List, Option, map, length, ap, sym, ◌∙◌, subst, arith}
 use Rattle.fk_tree.specs.Tree as t
 use Rattle.fk_tree.specs.View.{tree_of, processors}
 use Rattle.fk_meaning.specs.Processor as p

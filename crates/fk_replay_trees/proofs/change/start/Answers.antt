@@ -1,4 +1,4 @@
-use Rattle.std.proofs.Common.{◌≡◌, ℕ, ◌≤◌, length, min, ap, ◌∙◌, subst, arith}
+use Rattle.std.proofs.Common.{ℕ, length, ap, ◌∙◌, arith}
 use Rattle.fk_tree.specs.Tree as t
 use Rattle.fk_tree.specs.View.{tree_of, processors}
 use Rattle.fk_replay_trees.proofs.Members.{root_members}

@@ -1,4 +1,4 @@
-use Rattle.std.proofs.Common.{◌≡◌, ℕ, ◌+◌, ◌<◌, ◌≤◌, List, length, get_or, refl, ap, sym, ◌∙◌, arith, vec_len}
+use Rattle.std.proofs.Common.{ℕ, ◌<◌, List, length, get_or, refl, ap, sym, ◌∙◌, arith, vec_len}
 use Rattle.std.proofs.lemmas.List.{length-set}
 use Rattle.std.proofs.lemmas.Option.{slice_get_read}
 use Rattle.fk_tree.specs.Tree as t
