@@ -1,4 +1,4 @@
-use Rattle.std.proofs.Common.{length, arith}
+use Rattle.std.proofs.Common.{arith}
 use Rattle.fk_replay_source.proofs.tests.replayed.Goals as goal
 
 pub replay-requires-clause-room : goal.replay-requires-clause-room
