@@ -8,7 +8,8 @@ and the trace is replayed. An act is one hart in one cycle in which it commits. 
 acts and bytes, million acts and million bytes a second, and the most memory of the replay for each
 byte of the trace. The time is the least of RUNS replays (5 where it isn't given), less the least of
 as many of a trace of the same harts without a cycle, so that reading the text and taking memory
-don't count.
+don't count. A process counts with the memory of this script when it starts, so less than some 10 MB
+isn't told.
 """
 import os
 import subprocess
@@ -25,11 +26,12 @@ CYCLES = {1: 2_000_000, 64: 100_000, 1024: 10_000}
 def acts_of(trace):
     """How many acts a trace tells."""
     acts = 0
-    for line in trace.splitlines():
-        if line.startswith("c "):
-            for field in line.split(" ")[2:]:
-                first, last = field.split("*")[0].split("-")
-                acts += int(last) - int(first) + 1
+    with trace.open(encoding="ascii") as lines:
+        for line in lines:
+            if line.startswith("c "):
+                for field in line.split(" ")[2:]:
+                    first, last = field.split("*")[0].split("-")
+                    acts += int(last) - int(first) + 1
     return acts
 
 
@@ -55,7 +57,7 @@ def row(program, source, harts, runs, folder):
     for path, cycles in ((trace, CYCLES[harts]), (none, 0)):
         with path.open("wb") as out:
             subprocess.run([*words, str(cycles)], stdin=subprocess.DEVNULL, stdout=out, stderr=subprocess.DEVNULL)
-    acts, size = acts_of(trace.read_text(encoding="ascii")), trace.stat().st_size
+    acts, size = acts_of(trace), trace.stat().st_size
     (whole, memory), (start, least) = (replayed(program, source, path, runs) for path in (trace, none))
     seconds = max(whole - start, 1e-6)
     return (

@@ -7,7 +7,7 @@ pub mod OneProgram
 pub mod GroupSteps
 pub mod Sites
 -- the blocks of a list are few where its text has few operations
-mod Small
+pub mod Small
 mod Aims
 mod Blocks
 mod ListLaws

@@ -3,3 +3,4 @@ pub mod Carried
 pub mod Passed
 pub mod Accepted
 pub mod Known
+pub mod Sites

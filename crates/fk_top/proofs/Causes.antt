@@ -23,13 +23,15 @@ use Rattle.fk_trace_laws.proofs.OneProgram.{one_words}
 use Rattle.fk_top.specs.declared.status.Status.{Status}
 use Rattle.fk_top.specs.declared.status.Status.TheVariants.{Done, Refused, Usage, ReadFault, WriteFault, Memory, SourceFault, CycleBound, Trap, ImageRefused, InputRefused, TraceRefused, ElfRefused}
 use Rattle.fk_replay_text.specs.declared.fault.ReplayFault.{ReplayFault}
+use Rattle.fk_replay_text.specs.declared.fault.ReplayFault.TheVariants as faults
 use Rattle.fk_replay_text.specs.Lines.{IsBadLine}
 use Rattle.fk_replay_text.specs.Trace.{IsTraceText}
 use Rattle.fk_replay.specs.declared.end.Replayed.{Replayed}
 use Rattle.fk_replay_source.specs.Answer.{sites_by}
 use Rattle.fk_top.specs.Words.{TakesInput, Puts, IsPut, Origin, FirstOf, Generated, Nowhere, origin_of, trace_origin_of, most_input, most_trace_bytes}
 use Rattle.fk_top.specs.Outcome.{Outcome, Writing, Prints, Traces, EndsOn, EndsAudit, EndsReplay, ReplaysTrace, ComesTo, RefusesSource, RefusesImage, RefusesElf, LacksGlobal, IsShown, most_numbers, test_harts, test_cycles, test_shown}
-use Rattle.fk_top.specs.Refused.{IsRefusedBy, IsNoElfAs, IsNoImageAs}
+use Rattle.fk_top.specs.declared.report.Report.{Report}
+use Rattle.fk_top.specs.Refused.{IsRefusedBy, IsNoElfAs, IsNoImageAs, trace_report_of}
 use Rattle.fk_top.specs.Call.{Call, Request, Change, Rose, Ends, IsUnread, IsFileUnread, OriginFaults, AreRead, AreThere, IsHeld, IsInputUnread, IsCut, IsOutOfMemory, HasEnded, HasCause, IsInOrder, IsReadable, IsAccepted, IsInputBeside, IsOfStand, IsOfAccepted, IsOfAnswer, IsOfReplay, IsInputOfText, IsOfUnreadable, IsOfUntraced, IsTraced, IsOfUnaccepted, IsText, IsImage, IsElf, AreCut}
 use Rattle.fk_top.proofs.Inputs.{none_refused}
 use Rattle.fk_top.proofs.Lost.{no_more, moved, few_input}
@@ -351,6 +353,13 @@ accepted_alone image p n writing outcome status same (inr r) = (r.input, r.numbe
 not_bad : (trace : List ℕ) (line : ℕ) → IsTraceText trace → IsBadLine IsTraceText line trace → ⊥
 not_bad trace line traced bad = bad.here (record { other = trace; form = traced; same = refl })
 
+-- the status of an answer that refuses a trace
+refusing_status : (fault : ReplayFault) (report : Report) (status : Status) → trace_report_of fault ≡ Some report → TraceRefused ≡ status → IsOfAnswer (Err fault) status
+refusing_status (faults.BadTrace line) report status says is = sym is
+refusing_status (faults.NotPossible round) report status says is = sym is
+refusing_status (faults.Pace round processor) report status says is = sym is
+refusing_status faults.Memory report status says is = absurd (cc)
+
 -- what comes of a program, a trace and an input that are in order
 accepted_replay : (source trace text : List ℕ) (program : ProgramTree) (facts : Facts) → IsChecked source program facts → (outcome : Outcome) (status : Status) → IsTraceText (take most_trace_bytes trace) → IsInputOfText source text
     → outcome.status ≡ status → EndsReplay program facts (take most_trace_bytes trace) (take 1048577 text) outcome → IsOfReplay source trace text status
@@ -372,7 +381,7 @@ accepted_replay source trace text program facts checked outcome status traced in
     answer = runs.answer;
     is_answer = runs.is_answer;
     status_is = answered_as (sites_by program facts) runs.answer r.cycles outcome (λ (o : Outcome). o.status ≡ status → IsOfAnswer runs.answer status)
-        (λ run is e. subst (λ (a : Result Replayed ReplayFault). IsOfAnswer a status) (sym is) (sym e)) (λ fault line is e. subst (λ (a : Result Replayed ReplayFault). IsOfAnswer a status) (sym is) (sym e)) runs.is same;
+        (λ run is e. subst (λ (a : Result Replayed ReplayFault). IsOfAnswer a status) (sym is) (sym e)) (λ fault report is says e. subst (λ (a : Result Replayed ReplayFault). IsOfAnswer a status) (sym is) (refusing_status fault report status says e)) runs.is same;
   }
 ]
 

@@ -16,6 +16,7 @@ use Rattle.fk_machine.specs.Run.{machine}
 use Rattle.fk_replay_text.specs.Rounds.{schedule_of}
 use Rattle.fk_replay_text.specs.Trace.{IsTrace, IsTraceText, Told, moments_of}
 use Rattle.fk_replay_text.specs.declared.fault.ReplayFault.{ReplayFault}
+use Rattle.fk_replay_text.specs.declared.fault.ReplayFault.TheVariants as faults
 use Rattle.fk_replay.specs.declared.end.Replayed.{Replayed}
 use Rattle.fk_replay_source.specs.Answer.{IsAnswerFor}
 use Rattle.fk_layout_globals.specs.Rows.{Row}
@@ -370,9 +371,10 @@ IsOfRun source text harts cycles status =
     (image : Image) × IsFaithful source image × IsOfStand image text harts cycles status
 
 -- The status for the answer of a replay: that of how the program ends, or a refusal. Want of memory
--- has another.
+-- has none here.
 abbrev pub IsOfAnswer : Result Replayed ReplayFault → Status → Type 0
 IsOfAnswer (Ok run) status = status ≡ replay_status run.end
+IsOfAnswer (Err faults.Memory) status = ⊥
 IsOfAnswer (Err fault) status = status ≡ TraceRefused
 
 -- The status for the run of a text's program under the rounds of a trace.

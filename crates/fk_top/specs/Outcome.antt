@@ -412,8 +412,7 @@ abbrev pub test_shown : Option Text
 test_shown = Some (codes "c")
 
 -- The outcome of a command, for the bytes of its file, those of the trace that it reads beside it,
--- and those of the input. A generated text is
--- run without input numbers.
+-- and those of the input. A generated text is run without input numbers.
 abbrev pub ComesTo : Command → (bytes trace text : List ℕ) → Outcome → Type 0
 ComesTo (Run file harts cycles show) source trace text outcome =
     RefusesSource source outcome ⊎ LacksGlobal source show outcome
@@ -422,7 +421,8 @@ ComesTo (Build file image) source trace text outcome = RefusesSource source outc
     ⊎ PutsImage source image outcome
 ComesTo (Exec image harts cycles) bytes trace text outcome = RefusesImage bytes outcome
     ⊎ RunsImage bytes text harts cycles outcome
-ComesTo (ListCode image) bytes trace text outcome = RefusesImage bytes outcome ⊎ ListsImage bytes outcome
+ComesTo (ListCode image) bytes trace text outcome = RefusesImage bytes outcome
+    ⊎ ListsImage bytes outcome
 ComesTo (Elf image file) bytes trace text outcome = RefusesImage bytes outcome
     ⊎ PutsElf bytes file outcome
 ComesTo (Unelf file image) bytes trace text outcome = RefusesElf bytes outcome

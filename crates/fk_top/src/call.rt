@@ -32,8 +32,8 @@ use std::alloc::{AllocError, Global};
 /// A file is put before anything is given. What a cycle prints, or its lines in a trace, is given
 /// after that cycle; an audit is given when the run has ended, and so is what is printed under a
 /// trace, if the trace is accepted. The line of the variable that is shown follows when the run has
-/// ended. The report is the last line that `err` gets. Once the run of a machine has begun, the call
-/// takes no memory.
+/// ended. The report is the last line that `err` gets. Once a machine runs, the call takes no
+/// memory.
 ///
 /// `IsAnswer` says, fact by fact, what holds of the words, the status, and what the store and the
 /// sinks have before the call and after it.

@@ -25,8 +25,8 @@ use fk_top_words::{CommandWords, WordsFault, read_words};
 use std::alloc::{AllocError, Global};
 
 /// The ending of a call with these words, for a store and an input. It changes nothing in the
-/// store, runs nothing but an audit and a replay, and gives nothing to any sink. A file or an input that could
-/// not be read is an ending too. It fails only if there isn't enough memory.
+/// store, runs nothing but an audit and a replay, and gives nothing to any sink. A file or an input
+/// that could not be read is an ending too. It fails only if there isn't enough memory.
 pub fn find_ending<'a, F: Store, S: Source>(
     alloc: Global,
     words: &'a [String],

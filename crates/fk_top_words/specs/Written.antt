@@ -95,5 +95,6 @@ written_app = record {
       ∷ written_command (codes "exec") exec_parts ∷ written_command (codes "list") list_parts
       ∷ written_command (codes "elf") put_parts ∷ written_command (codes "unelf") put_parts
       ∷ written_command (codes "audit") exec_parts ∷ written_command (codes "trace") exec_parts
-      ∷ written_replay ∷ written_command (codes "selftest") list_parts ∷ written_command (codes "locks") [] ∷ [];
+      ∷ written_replay ∷ written_command (codes "selftest") list_parts
+      ∷ written_command (codes "locks") [] ∷ [];
 }
