@@ -1,6 +1,6 @@
 -- How runs end.
-use Rattle.std.proofs.Common.{◌≡◌, Bool, true, false, ◌&&◌, List, [], ◌∷◌, Option, Some, None, refl, ap}
-use Rattle.std.specs.Prelude.{is_none, option_map}
+use Rattle.std.proofs.Common.{◌≡◌, Bool, true, false, ◌&&◌, List, [], ◌∷◌, Option, Some, None, true≢false, refl, sym, ap}
+use Rattle.std.specs.Prelude.{not, is_some, is_none, option_map}
 use Rattle.std.specs.List.{list_all}
 use Rattle.fk_meaning.specs.Processor.{Setting}
 use Rattle.fk_meaning.specs.Schedule.{all_done}
@@ -19,6 +19,8 @@ module _ (core : List CoreOp) where
   all_ended set [] = refl
   all_ended set (a ∷ actors) = ap (λ (b : Bool). has_ended a && b) (all_ended set actors)
 
-pub none_of : {X Y : Type 0} (f : X → Y) (x : Option X) (y : Option Y) → option_map f x ≡ y → is_none x ≡ is_none y
-none_of f None y e = ap is_none e
-none_of f (Some x) y e = ap is_none e
+pub none_of : {X Y : Type 0} (f : X → Y) (x : Option X) (y : Option Y) (none : Bool) → is_some x ≡ not none → option_map f x ≡ y → none ≡ is_none y
+none_of f None y true some e = ap is_none e
+none_of f None y false some e = absurd (true≢false (sym some))
+none_of f (Some x) y true some e = absurd (true≢false some)
+none_of f (Some x) y false some e = ap is_none e

@@ -14,6 +14,7 @@ use Rattle.fk_replay_steps.specs.Pace.{Absences, IsLeastLate, since}
 use Rattle.fk_replay_phases.specs.Present.{present, numbers_of}
 use Rattle.fk_replay_phases.specs.Actors.{fault_of}
 use Rattle.fk_replay_phases.specs.declared.phases.Fault.{Fault}
+use Rattle.fk_replay_phases.specs.declared.acting.Acting.{Acting}
 use Rattle.fk_replay_run.specs.declared.run.Run.{Run}
 use Rattle.fk_replay_run.specs.Steady.{IsSteady}
 use Rattle.fk_replay_run.specs.Runs.{IsRun, state_of}
@@ -44,16 +45,20 @@ passes_on P (Err z) reason same x = subst P (sym same) x
 pub run_with : (run : Run) (left : Absences) → IsRun run → IsRun (record run { pace = left })
 run_with run left x = same_run run (record run { pace = left }) refl x
 
+-- those who are in the round leave
+abbrev LeaveTo : Run → Absences → Type 0
+LeaveTo mid left = (r : Round) → numbers_of mid.acting.items ≡ present 0 r → Leaves r (since mid.pace) (since left)
+
+pub leave_to : (mid : Run) (left : Absences) (acting : List Acting) → acting ≡ mid.acting.items
+    → ((r : Round) → numbers_of acting ≡ present 0 r → Leaves r (since mid.pace) (since left)) → LeaveTo mid left
+leave_to mid left acting same leaves = λ r e. leaves r (ap numbers_of same ∙ e)
+
 module _ (core : List CoreOp) (round : Round) (number : ℕ) (is_last : Bool) (old : Run) where
   abbrev Good : Type 0
   Good = IsGood core round number is_last old
 
   abbrev Taken : Run → Option Fault → Type 0
   Taken mid fault = HasTaken core round number is_last old mid fault
-
-  -- those who are in the round leave
-  abbrev LeaveTo : Run → Absences → Type 0
-  LeaveTo mid left = (r : Round) → numbers_of mid.acting.items ≡ present 0 r → Leaves r (since mid.pace) (since left)
 
   pub bad_neither : (mid : Run) → IsNeither core round old mid → Good → ⊥
   bad_neither mid x (inl e) = x.impossible e

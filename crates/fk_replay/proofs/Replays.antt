@@ -22,6 +22,7 @@ use Rattle.fk_replay_steps.specs.Pace.{Absences, since}
 use Rattle.fk_replay_schedules.proofs.Prefixes.{first_possible}
 use Rattle.fk_replay_phases.specs.Actors.{runners_of, fault_of}
 use Rattle.fk_replay_phases.specs.declared.phases.Fault.{Fault}
+use Rattle.fk_replay_phases.specs.declared.actor.Actor.{Actor}
 use Rattle.fk_replay.specs.declared.end.Replayed.{Replayed}
 use Rattle.fk_replay_run.specs.declared.run.Run.{Run}
 use Rattle.fk_replay_run.specs.Steady.{IsSteady}
@@ -145,12 +146,13 @@ module _ (core : List CoreOp) (main : ℕ) (words firsts input : List ℕ) (p : 
 
   -- ---- behind the last round
 
-  pub answered : (schedule : Schedule) (r : Run) (fault : Option Fault) (replayed : Replayed) → HasFollowed core (setting_of begun.setting) schedule (state_of begun) r fault
-      → replayed.output.items ≡ (store_of r.store).output
-      → ((σ : Setting) → stand_in replayed.end ≡ stand_by (next core) σ (option_map (fault_of core) fault) (runners_of r.actors.items))
+  pub answered : (schedule : Schedule) (r : Run) (fault : Option Fault) (replayed : Replayed) (actors : List Actor) → HasFollowed core (setting_of begun.setting) schedule (state_of begun) r fault
+      → replayed.output.items ≡ (store_of r.store).output → actors ≡ r.actors.items
+      → ((σ : Setting) → stand_in replayed.end ≡ stand_by (next core) σ (option_map (fault_of core) fault) (runners_of actors))
       → IsReplay core main words firsts input p schedule replayed
-  answered schedule r fault replayed followed output stand =
-      replay_is core main words firsts input p schedule r replayed fault (by_first (λ (σ : Setting) (s : State Position). HasFollowed core σ schedule s r fault) followed) output (stand (set core main words firsts input p))
+  answered schedule r fault replayed actors followed output same stand =
+      replay_is core main words firsts input p schedule r replayed fault (by_first (λ (σ : Setting) (s : State Position). HasFollowed core σ schedule s r fault) followed) output
+      (stand (set core main words firsts input p) ∙ ap (λ (as : List Actor). stand_by (next core) (set core main words firsts input p) (option_map (fault_of core) fault) (runners_of as)) same)
 
   pub refused : (schedule : Schedule) (fault : ReplayFault) → IsUnlawful core (setting_of begun.setting) schedule (state_of begun) fault → IsAnswer core main words firsts input p schedule (Err fault)
   refused schedule fault x =

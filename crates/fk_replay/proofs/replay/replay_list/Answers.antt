@@ -24,4 +24,4 @@ follow-requires-clause-first c = has_done_none c.args.ops.now c.args.main c.args
 
 pub returns : goal.returns
 returns c =
-    answered c.args.ops.now c.args.main c.args.words.now c.args.firsts.now c.args.input.now c.args.trace.now.harts c.in_ok-run.run' c.begin.new.self c.in_ok-run.ensures c.begin.ensures (schedule_in c.args.trace.now) c.follow.new.run c.in_ok-fault.fault _ c.in_ok-fault.ensures.followed (c.in_ok-output.ensures ∙ c.output.ensures) c.end_of.ensures
+    answered c.args.ops.now c.args.main c.args.words.now c.args.firsts.now c.args.input.now c.args.trace.now.harts c.in_ok-run.run' c.begin.new.self c.in_ok-run.ensures c.begin.ensures (schedule_in c.args.trace.now) c.follow.new.run c.in_ok-fault.fault _ c.deref.result.now c.in_ok-fault.ensures.followed (c.in_ok-output.ensures ∙ c.output.ensures) c.deref.ensures.value c.end_of.ensures
