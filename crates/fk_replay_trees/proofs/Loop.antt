@@ -41,6 +41,10 @@ there_is [] n lt = absurd (let z : ⊥ = omega arith in z)
 there_is (x ∷ xs) zero lt = (x, refl)
 there_is (x ∷ xs) (suc n) lt = there_is xs n (omega arith)
 
+pub none_of : {A : Type 0} (slot : Option A) → ((x : A) → slot ≡ Some x → ⊥) → slot ≡ None
+none_of None not = refl
+none_of (Some x) not = absurd (not x refl)
+
 pub get_map : {A B : Type 0} (f : A → B) (xs : List A) (n : ℕ) (x : A) → slice_get xs n ≡ Some x → slice_get (map f xs) n ≡ Some (f x)
 get_map f [] n x e = absurd (let bad : None ≡ Some x = e in cc)
 get_map f (y ∷ ys) zero x e = let same : y ≡ x = cc in ap (λ z. Some (f z)) same
@@ -159,11 +163,8 @@ module _ (p : ℕ) (old : Tree) (acting : List acts.Acting) (actors : List Actor
     taken_at h other a due here taken = sym (ap (λ (x : Actor). x.taken) (get_or_from_slice_get actors h a other here)) ∙ taken
 
     pub none_at : (h : ℕ) (other a : Actor) → slice_get actors h ≡ Some a → ((due : Due) → (get_or actors h other).taken ≡ Some due → ⊥) → a.taken ≡ None
-    none_at h other a here none = by a.taken refl
-      where
-        by : (taken : Option Due) → a.taken ≡ taken → a.taken ≡ None
-        by None e = e
-        by (Some due) e = absurd (none due (ap (λ (x : Actor). x.taken) (get_or_from_slice_get actors h a other here) ∙ e))
+    none_at h other a here not =
+        let same = ap (λ (x : Actor). x.taken) (get_or_from_slice_get actors h a other here) in none_of a.taken (λ due e. not due (same ∙ e))
 
     pub not_lowest : (i : ℕ) (x : acts.Acting) → i < length acting → x ≡ get_or acting i x → (x.number ≡ x.lowest → ⊥) → (x.number == lowest (t.members old (old.places x.number))) ≡ false
     not_lowest i x lt is ne =

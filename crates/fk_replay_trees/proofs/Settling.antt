@@ -1,5 +1,5 @@
 -- The members of nodes do their own parts of steps, one after the other.
-use Rattle.std.proofs.Common.{◌≡◌, ℕ, suc, ◌+◌, ◌<◌, ◌≤◌, Bool, true, false, List, [], ◌∷◌, length, get_or, set, drop, map, Option, Some, None, ap, refl, sym, ◌∙◌, arith}
+use Rattle.std.proofs.Common.{subst, zero, ◌≡◌, ℕ, suc, ◌+◌, ◌<◌, ◌≤◌, Bool, true, false, List, [], ◌∷◌, length, get_or, set, drop, map, Option, Some, None, ap, refl, sym, ◌∙◌, arith}
 use Rattle.std.specs.Prelude.{◌==◌, nat_lt, ◌&&◌, ◌||◌, slice_index, slice_get, option_map}
 use Rattle.std.proofs.lemmas.Bool.{eqb-true, eq-eqb}
 use Rattle.std.proofs.lemmas.List.{length-set}
@@ -23,6 +23,12 @@ use Rattle.fk_replay_phases.proofs.Sparse.{SoFar, begun, more, at_end, get_set_o
 use Rattle.fk_replay_trees.specs.Changes.{has_of, has_by, agreed_by, mode_as, ModesFollow}
 use Rattle.fk_replay_trees.specs.Settled.{settled_as, HasSettled, HaveSettled}
 use Rattle.fk_replay_trees.proofs.Loop.{who_is, get_map, element_of}
+
+-- an element in its own place
+set_there : {A : Type 0} (xs : List A) (n : ℕ) (x : A) → slice_get xs n ≡ Some x → set xs n x ≡ xs
+set_there [] n x is = refl
+set_there (y ∷ ys) zero x is = let same : y ≡ x = cc in ap (λ z. z ∷ ys) (sym same)
+set_there (y ∷ ys) (suc n) x is = ap (λ zs. y ∷ zs) (set_there ys n x is)
 
 -- who comes next, while all who come later are as before
 module _ (acting : List acts.Acting) (before : List Actor) (in_round : AreInRound acting before) where
@@ -56,6 +62,10 @@ module _ (acting : List acts.Acting) (before : List Actor) (in_round : AreInRoun
         many = length-set now x.number to ∙ at.many;
         rest = λ h le. get_set_other now x.number h to (λ same. absurd (omega (arith, same, le))) ∙ at.rest h (omega (arith, low, le));
       }
+
+  pub comes_idle : (i : ℕ) (now : List Actor) (x : acts.Acting) (a : Actor) → ComesNext i now → i < length acting → x ≡ get_or acting i x → slice_get now x.number ≡ Some a
+      → ComesNext (i + 1) now
+  comes_idle i now x a at lt is here = subst (λ (actors : List Actor). ComesNext (i + 1) actors) (set_there now x.number a here) (comes_more i now x a at lt is)
 
 module _ (p : ℕ) (core : List CoreOp) (old new : Tree) (acting : List acts.Acting) (before : List Actor) where
   pub record Given : Type 0 where
@@ -182,6 +192,22 @@ module _ (p : ℕ) (core : List CoreOp) (old new : Tree) (acting : List acts.Act
                     ∙ given.modes.each x.number a there;
               });
         }
+
+    -- a member that has taken nothing has no part to do
+    nothing_to_do : (high low size : ℕ) (is_root : Bool) (a : Actor) → a.taken ≡ None → HasSettled core high low size is_root a a
+    nothing_to_do high low size is_root a free = record {
+      runner = sym (ap (λ o. settled_as high low size (runner_of a.runner) (option_map (step_at core (callers_of a.runner)) o)) free);
+      free = free;
+      mode = sym (ap (mode_as high low is_root a) free);
+    }
+
+    pub settles_idle : (i : ℕ) (now : List Actor) (x : acts.Acting) (a : Actor) → SettlesAt i now → i < length acting → x ≡ get_or acting i x → slice_get now x.number ≡ Some a
+        → a.taken ≡ None → SettlesAt (i + 1) now
+    settles_idle i now x a at lt is here free =
+        let high = last (values (has_of now x.highest)) in
+        let size = length (t.members new (new.places x.number)) in
+        subst (λ (actors : List Actor). SettlesAt (i + 1) actors) (set_there now x.number a here)
+        (settles_more i now x a a high size at lt is here refl refl (nothing_to_do high x.lowest size (x.node == 0) a free))
 
     all_runners : (xs now : List Actor) → length now ≡ length xs
         → ((h : ℕ) (x a : Actor) → slice_get now h ≡ Some x → slice_get xs h ≡ Some a → runner_of x.runner ≡ settled_by (actings_of core before) old new (runner_of a.runner) (due_of core a))

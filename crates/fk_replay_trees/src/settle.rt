@@ -1,6 +1,6 @@
 //! What the steps of a round do to the members of their nodes.
 
-ghost use Rattle.std.specs.Prelude.{◌≡◌, ◌^◌, ◌<◌, ◌==◌, length, vec_len, OnOk};
+ghost use Rattle.std.specs.Prelude.{◌≡◌, ◌^◌, ◌<◌, ◌==◌, length, vec_len, Some, OnOk};
 ghost use Rattle.fk_tree.specs.Tree as t;
 ghost use Rattle.fk_tree.specs.Sound.{IsSound};
 ghost use Rattle.fk_tree.specs.View.{tree_of, processors};
@@ -14,26 +14,25 @@ use crate::change::last_of;
 use crate::modes::mode_after;
 use fk_core::CoreOp;
 use fk_replay_phases::{Acting, Actor};
-use fk_replay_steps::{does, goes_onward};
+use fk_replay_steps::{Due, does, goes_onward};
 use fk_tree::Tree;
 use std::alloc::AllocError;
 
-/// A member does its own part of a step.
+/// A member does its own part of the step that it took.
 fn settle(
     ops: &[CoreOp],
     acting: Acting,
+    due: Due,
     highest: u32,
     size: u32,
     actor: &mut Actor,
 ) -> Result<(), AllocError>
     requires few { length ops.now < 2 ^ 32 }
+    requires taken { actor.old.taken ≡ Some due }
     requires ready { IsReady ops.now actor.old }
     ensures settled { OnOk result (HasSettled ops.now highest acting.lowest size
         (acting.node == 0) actor.old actor.new) }
 {
-    let Some(due) = actor.taken else {
-        return Ok(());
-    };
     let operation = due.operation;
     let onward = goes_onward(operation, highest, acting.lowest, &actor.runner.processor);
     does(operation, highest, size, &mut actor.runner.processor)?;
@@ -66,9 +65,11 @@ pub fn settle_all(
 {
     for member in acting {
         let number = member.number as usize;
-        let highest = last_of(actors, member.highest);
-        let size = tree.members(tree.node_of(member.number)).len() as u32;
-        settle(ops, *member, highest, size, &mut actors[number])?;
+        if let Some(due) = actors[number].taken {
+            let highest = last_of(actors, member.highest);
+            let size = tree.members(tree.node_of(member.number)).len() as u32;
+            settle(ops, *member, due, highest, size, &mut actors[number])?;
+        }
     }
     Ok(())
 }

@@ -1,4 +1,4 @@
-use Rattle.std.proofs.Common.{ℕ, ◌<◌, List, length, get_or, refl, ap, sym, ◌∙◌, arith, vec_len}
+use Rattle.std.proofs.Common.{◌≡◌, ℕ, ◌<◌, List, length, get_or, refl, ap, sym, ◌∙◌, arith, vec_len}
 use Rattle.std.proofs.lemmas.List.{length-set}
 use Rattle.std.proofs.lemmas.Option.{slice_get_read}
 use Rattle.fk_tree.specs.Tree as t
@@ -9,8 +9,10 @@ use Rattle.fk_replay_phases.specs.declared.actor.Actor.{Actor}
 use Rattle.fk_replay_phases.proofs.Highest.{element}
 use Rattle.fk_replay_phases.proofs.Few.{few_members}
 use Rattle.fk_replay_trees.specs.Changes.{has_of}
-use Rattle.fk_replay_trees.proofs.Settling.{Given, next_there, comes_more, settles_more, settles_end}
+use Rattle.fk_replay_trees.proofs.Loop.{none_of}
+use Rattle.fk_replay_trees.proofs.Settling.{Given, next_there, comes_more, comes_idle, settles_more, settles_idle, settles_end}
 use Rattle.fk_replay_trees.proofs.settle.settle_all.Goals as goal
+use Rattle.fk_replay_trees.proofs.settle.settle_all.Goals.{in-Some+in_ok-settle, in_default}
 
 abbrev nobody : Acting
 nobody = record { number = 0; node = 0; lowest = 0; highest = 0 }
@@ -51,31 +53,91 @@ settle-requires-clause-ready c =
     let here = slice_get_read now (length now) x.number c.index_mut.result.now refl low c.index_mut.ensures.value in
     c.requires.ready.each x.number c.index_mut.result.now (sym there.1 ∙ here)
 
-pub loop-member-preserved : goal.loop-member-preserved
-loop-member-preserved c =
+pub index-requires : goal.index-requires
+index-requires c =
     let i = c.loop-member.member-index in
     let now = c.loop-member.actors.items in
     let x = get_or c.args.acting.now i nobody in
-    let to = c.settle.new.actor in
+    let at = c.loop-member.invariant.1 c.requires.in_round in
     let lt : i < length c.args.acting.now = c.loop-member-test.true in
     let is = element c.args.acting.now i nobody lt in
+    let there = next_there c.args.acting.now c.args.actors.now.items c.requires.in_round i now x at lt is in
+    let bound = there.0 in
+    let held = c.args.actors.now.ok.0 in
+    let same = c.loop-member.invariant.0 in
+    omega (arith, bound, held, same)
+
+pub last_of-highest-requires : goal.last_of-highest-requires
+last_of-highest-requires c =
+    let i = c.loop-member.member-index in
+    let acting = c.args.acting.now in
+    let x = get_or acting i nobody in
+    let lt : i < length acting = c.loop-member-test.true in
+    let is = element acting i nobody lt in
+    let low = c.requires.high.each i x (slice_get_read acting (length acting) i x refl lt is) in
     let held = c.loop-member.actors.ok.0 in
     let same = c.loop-member.invariant.0 in
-    let kept = length-set now x.number to in (
-      omega (arith, held, same, kept),
-      (λ in_round. comes_more c.args.acting.now c.args.actors.now.items in_round i now x to (c.loop-member.invariant.1 in_round) lt is),
-      λ old given.
-          let at = c.loop-member.invariant.1 c.requires.in_round in
-          let there = next_there c.args.acting.now c.args.actors.now.items c.requires.in_round i now x at lt is in
-          let bound = there.0 in
-          let many = at.many in
-          let low : x.number < length now = omega (arith, bound, many) in
-          let here = slice_get_read now (length now) x.number c.index_mut.result.now refl low c.index_mut.ensures.value in
-          let size = ap length c.members.ensures.members ∙ ap (λ (n : ℕ). length (t.members (tree_of c.args.tree.now) n)) c.node_of.ensures in
-          let high = c.last_of-highest.ensures ∙ ap (λ (xs : List Actor). last (values (has_of xs x.highest))) c.deref.ensures.value in
-          settles_more (vec_len c.args.actors.now) c.args.ops.now old (tree_of c.args.tree.now) c.args.acting.now c.args.actors.now.items given i now x c.index_mut.result.now to
-          _ _ (c.loop-member.invariant.2 old given) lt is here high size c.in_ok-settle.ensures.settled,
-    )
+    let all = ap length c.deref.ensures.value in
+    omega (arith, low, held, same, all)
+
+pub settle-requires-clause-taken : goal.settle-requires-clause-taken
+settle-requires-clause-taken c =
+    let i = c.loop-member.member-index in
+    let now = c.loop-member.actors.items in
+    let x = get_or c.args.acting.now i nobody in
+    let at = c.loop-member.invariant.1 c.requires.in_round in
+    let lt : i < length c.args.acting.now = c.loop-member-test.true in
+    let is = element c.args.acting.now i nobody lt in
+    let there = next_there c.args.acting.now c.args.actors.now.items c.requires.in_round i now x at lt is in
+    let bound = there.0 in
+    let many = at.many in
+    let low : x.number < length now = omega (arith, bound, many) in
+    let read = slice_get_read now (length now) x.number c.index.result.now refl low c.index.ensures in
+    let here = slice_get_read now (length now) x.number c.index_mut.result.now refl low c.index_mut.ensures.value in
+    let same : c.index_mut.result.now ≡ c.index.result.now = cc in
+    ap (λ (a : Actor). a.taken) same ∙ c.in-Some.is
+
+pub loop-member-preserved : goal.loop-member-preserved
+loop-member-preserved c =
+    let i = c.loop-member.member-index in
+    let ops = c.args.ops.now in
+    let acting = c.args.acting.now in
+    let actors = c.args.actors.now.items in
+    let tree = tree_of c.args.tree.now in
+    let now = c.loop-member.actors.items in
+    let x = get_or acting i nobody in
+    let lt : i < length acting = c.loop-member-test.true in
+    let is = element acting i nobody lt in
+    let at = c.loop-member.invariant.1 c.requires.in_round in
+    let there = next_there acting actors c.requires.in_round i now x at lt is in
+    let bound = there.0 in
+    let many = at.many in
+    let low : x.number < length now = omega (arith, bound, many) in
+    let held = c.loop-member.actors.ok.0 in
+    let same = c.loop-member.invariant.0 in
+    elim c.match-index.branch [
+      | in-Some+in_ok-settle w ↦ rw w.actors-is
+          (let to = w.settle.new.actor in
+          let kept = length-set now x.number to in
+          let here = slice_get_read now (length now) x.number w.index_mut.result.now refl low w.index_mut.ensures.value in
+          let size = ap length w.members.ensures.members ∙ ap (λ (n : ℕ). length (t.members tree n)) w.node_of.ensures in
+          let high = w.last_of-highest.ensures ∙ ap (λ (xs : List Actor). last (values (has_of xs x.highest))) w.deref.ensures.value in (
+            omega (arith, held, same, kept),
+            (λ in_round. comes_more acting actors in_round i now x to (c.loop-member.invariant.1 in_round) lt is),
+            λ old given.
+                settles_more (vec_len c.args.actors.now) ops old tree acting actors given i now x w.index_mut.result.now to _ _ (c.loop-member.invariant.2 old given) lt is here
+                high size w.in_ok-settle.ensures.settled,
+          ))
+      | in_default w ↦ rw w.actors-is
+          (let a = c.index.result.now in
+          let here = slice_get_read now (length now) x.number a refl low c.index.ensures in (
+            same,
+            (λ in_round. comes_idle acting actors in_round i now x a (c.loop-member.invariant.1 in_round) lt is here),
+            λ old given.
+                settles_idle (vec_len c.args.actors.now) ops old tree acting actors given i now x a (c.loop-member.invariant.2 old given) lt is here
+                (none_of a.taken w.in_default.not-Some),
+          ))
+    ]
 
 pub index_mut-requires : goal.index_mut-requires
 index_mut-requires c =
