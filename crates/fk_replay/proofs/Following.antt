@@ -1,25 +1,21 @@
 -- Runs that follow a schedule.
-use Rattle.std.proofs.Common.{◌≡◌, ℕ, zero, suc, ◌+◌, ◌-◌, ◌*◌, ◌/◌, ◌<◌, ◌≤◌, ◌^◌, Bool, true, false, ◌⊎◌, inl, inr, List, [], ◌∷◌, length, take, map, Option, Some, None, refl, sym, ap, ap₂, ◌∙◌, subst, arith}
-use Rattle.std.specs.Prelude.{slice_get, slice_index, option_map, vec_len}
-use Rattle.std.proofs.lemmas.List.{take_all, length-map}
+use Rattle.std.proofs.Common.{◌≡◌, ℕ, zero, suc, ◌+◌, ◌-◌, ◌*◌, ◌<◌, ◌≤◌, ◌^◌, Bool, true, false, ◌⊎◌, inl, inr, List, length, Option, Some, None, refl, sym, ap, ap₂, ◌∙◌, subst, arith}
+use Rattle.std.specs.Prelude.{slice_get, slice_index}
+use Rattle.std.proofs.lemmas.List.{take_all}
 use Rattle.std.proofs.lemmas.Option.{slice_get_within}
-use Rattle.fk_space.specs.Space.{IsSpace}
 use Rattle.fk_tree.specs.View.{tree_of, processors}
 use Rattle.fk_meaning_store.specs.View.{store_of}
 use Rattle.fk_meaning_state.specs.View.{setting_of}
-use Rattle.fk_meaning.specs.Processor.{Setting, group_space}
-use Rattle.fk_meaning.specs.Processor as processor
+use Rattle.fk_meaning.specs.Processor.{Setting}
 use Rattle.fk_meaning.specs.Round.{State, Round, result, is_possible, IsStopped}
 use Rattle.fk_meaning.specs.Schedule.{Schedule, IsIn, IsLawful, run, stand_by, stand_of}
 use Rattle.fk_core.specs.declared.op.CoreOp.{CoreOp}
-use Rattle.fk_core.specs.Next.{Position, position, next, landing, list_opening}
+use Rattle.fk_core.specs.Next.{Position, next}
 use Rattle.fk_replay_text.specs.declared.fault.ReplayFault.{ReplayFault}
 use Rattle.fk_replay_text.specs.declared.fault.ReplayFault.TheVariants.{BadTrace, NotPossible, Pace, Memory}
-use Rattle.fk_replay_counts.specs.Steady.{IsSteadyInTree}
-use Rattle.fk_replay_counts.proofs.Steady.{runs_are_steady}
-use Rattle.fk_replay_schedules.specs.Answers.{after, IsBad, IsGoodBehind, IsLate, IsNotPossible, IsPassedOver}
+use Rattle.fk_replay_schedules.specs.Answers.{after, IsGoodBehind, IsLate, IsNotPossible, IsPassedOver}
 use Rattle.fk_replay_schedules.specs.Paced.{Since, Leaves, Begins, IsPaced, ArePassed}
-use Rattle.fk_replay_schedules.proofs.Prefixes.{no_fault, one_more, first_possible}
+use Rattle.fk_replay_schedules.proofs.Prefixes.{no_fault, one_more}
 use Rattle.fk_replay_schedules.proofs.Idle.{AreIdle, are_idle, idle_result, idle_possible, nobody_in}
 use Rattle.fk_replay_schedules.proofs.Paced.{told_is_late, late_is_told, kept, passed_next, not_possible, passed_over, all_passed, all_but_last}
 use Rattle.fk_replay_steps.specs.Pace.{Absences, IsLateNow, IsLeastLate, since}
@@ -27,11 +23,11 @@ use Rattle.fk_replay_phases.specs.Actors.{runners_of, fault_of}
 use Rattle.fk_replay_phases.specs.declared.phases.Fault.{Fault}
 use Rattle.fk_replay_run.specs.declared.run.Run.{Run}
 use Rattle.fk_replay_run.specs.Runs.{IsRun, state_of}
-use Rattle.fk_replay_take.specs.Taken.{IsDone, IsStoppedBy}
+use Rattle.fk_replay_take.specs.Taken.{IsDone}
 use Rattle.fk_replay_run.specs.Steady.{IsSteady}
-use Rattle.fk_replay.specs.Passed.{AreOnTime, IsFirstLate, HasPassed, IsGood, IsTooLate, IsRefused, IsSteadyBehind}
-use Rattle.fk_replay_run.specs.Told.{KnowsAbout, HasTold}
-use Rattle.fk_replay.specs.Followed.{HasDone, HasStopped, HasFollowed, IsUnlawful, AreSteady, AreFirstPossible}
+use Rattle.fk_replay.specs.Passed.{AreOnTime, IsFirstLate, HasPassed, IsGood, IsRefused, IsSteadyBehind}
+use Rattle.fk_replay_run.specs.Told.{HasTold}
+use Rattle.fk_replay.specs.Followed.{HasDone, HasStopped, IsUnlawful, AreSteady, AreFirstPossible}
 use Rattle.fk_replay.proofs.Passing.{same_run}
 
 module _ (core : List CoreOp) (set : Setting) (schedule : Schedule) (first : State Position) where

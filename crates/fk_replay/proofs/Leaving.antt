@@ -1,12 +1,11 @@
 -- Those who are in a round are no longer absent.
-use Rattle.std.proofs.Common.{◌≡◌, ◌≢◌, ℕ, zero, suc, ◌+◌, ◌<◌, ◌≤◌, ◌⊎◌, inl, inr, List, [], ◌∷◌, length, map, set, get_or, Option, Some, None, ap, refl, sym, ◌∙◌, subst, arith}
+use Rattle.std.proofs.Common.{◌≡◌, ◌≢◌, ℕ, zero, suc, ◌+◌, ◌<◌, ◌⊎◌, inl, inr, List, [], ◌∷◌, length, set, get_or, Option, Some, None, ap, refl, sym, ◌∙◌, subst, arith}
 use Rattle.std.specs.Prelude.{slice_get, slice_index, option_map}
 use Rattle.std.proofs.lemmas.Option.{slice_get-map, slice_get-get_or, slice_get_within}
 use Rattle.fk_meaning.specs.Round.{Round}
 use Rattle.fk_meaning.specs.Schedule.{IsIn}
 use Rattle.fk_replay_schedules.specs.Paced.{Leaves}
-use Rattle.fk_replay_schedules.proofs.Paced.{in_or_not}
-use Rattle.fk_replay_steps.specs.Pace.{Absences, if_there, since}
+use Rattle.fk_replay_steps.specs.Pace.{Absences, since}
 use Rattle.fk_replay_phases.specs.Present.{present, numbers_of}
 use Rattle.fk_replay_arrivals.proofs.Begun.{set_length}
 use Rattle.fk_replay_phases.specs.declared.acting.Acting.{Acting}

@@ -1,5 +1,5 @@
 -- The answers of the replay of a list.
-use Rattle.std.proofs.Common.{◌≡◌, ℕ, zero, suc, ◌+◌, ◌-◌, ◌*◌, ◌/◌, ◌<◌, ◌≤◌, ◌^◌, List, [], length, take, replicate, Option, Some, None, Ok, Err, refl, sym, ap, ◌∙◌, subst, arith}
+use Rattle.std.proofs.Common.{◌≡◌, ℕ, zero, suc, ◌+◌, ◌*◌, ◌≤◌, ◌^◌, List, [], length, take, replicate, Option, Some, None, Err, refl, sym, ap, ◌∙◌, subst, arith}
 use Rattle.std.specs.Prelude.{option_map}
 use Rattle.fk_space.specs.Space.{IsSpace}
 use Rattle.fk_meaning_store.specs.Store.{group_words}
@@ -8,7 +8,7 @@ use Rattle.fk_meaning_store.specs.View.{store_of}
 use Rattle.fk_meaning_state.specs.View.{setting_of}
 use Rattle.fk_meaning.specs.Processor.{Setting, group_space}
 use Rattle.fk_meaning.specs.Round.{State}
-use Rattle.fk_meaning.specs.Schedule.{Schedule, ArePossible, run, stand_by}
+use Rattle.fk_meaning.specs.Schedule.{Schedule, ArePossible, stand_by}
 use Rattle.fk_core.specs.declared.op.CoreOp.{CoreOp}
 use Rattle.fk_core.specs.Next.{Position, position, next, landing}
 use Rattle.fk_replay_text.specs.declared.fault.ReplayFault.{ReplayFault}
@@ -152,7 +152,7 @@ module _ (core : List CoreOp) (main : ℕ) (words firsts input : List ℕ) (p : 
       → IsReplay core main words firsts input p schedule replayed
   answered schedule r fault replayed actors followed output same stand =
       replay_is core main words firsts input p schedule r replayed fault (by_first (λ (σ : Setting) (s : State Position). HasFollowed core σ schedule s r fault) followed) output
-      (stand (set core main words firsts input p) ∙ ap (λ (as : List Actor). stand_by (next core) (set core main words firsts input p) (option_map (fault_of core) fault) (runners_of as)) same)
+      (stand (set core main words firsts input p) ∙ ap (λ (all : List Actor). stand_by (next core) (set core main words firsts input p) (option_map (fault_of core) fault) (runners_of all)) same)
 
   pub refused : (schedule : Schedule) (fault : ReplayFault) → IsUnlawful core (setting_of begun.setting) schedule (state_of begun) fault → IsAnswer core main words firsts input p schedule (Err fault)
   refused schedule fault x =

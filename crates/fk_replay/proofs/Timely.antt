@@ -1,9 +1,9 @@
 -- Rounds that are late for nobody.
-use Rattle.std.proofs.Common.{◌≡◌, ℕ, suc, ◌+◌, ◌<◌, ◌≤◌, ◌⊎◌, inl, inr, Option, Some, None, ap, sym, ◌∙◌, subst, arith}
-use Rattle.fk_replay_steps.specs.Pace.{Absences, IsLateNow, IsLeastLate, since}
+use Rattle.std.proofs.Common.{◌≡◌, ℕ, ◌+◌, ◌<◌, ◌≤◌, ◌⊎◌, inl, inr, Some, None, sym, ◌∙◌, subst, arith}
+use Rattle.fk_replay_steps.specs.Pace.{Absences, IsLeastLate, since}
 use Rattle.fk_replay_text.specs.declared.fault.ReplayFault.{ReplayFault}
 use Rattle.fk_replay_text.specs.declared.fault.ReplayFault.TheVariants.{BadTrace, NotPossible, Pace, Memory}
-use Rattle.fk_replay.specs.Passed.{AreOnTime, IsFirstLate, TellsLate, TellsFirstLate}
+use Rattle.fk_replay.specs.Passed.{AreOnTime, TellsLate, TellsFirstLate}
 
 -- nobody could act
 pub idle_on_time : (absences : Absences) (from last : ℕ) → ((h : ℕ) → since absences h ≡ None) → AreOnTime absences from last

@@ -1,6 +1,6 @@
 -- Runs that follow the moments of a trace.
-use Rattle.std.proofs.Common.{◌≡◌, ℕ, zero, suc, ◌+◌, ◌-◌, ◌*◌, ◌<◌, ◌≤◌, ◌^◌, ◌==◌, Bool, true, false, List, [], ◌∷◌, length, map, drop, get_or, Option, Some, None, refl, sym, ap, ◌∙◌, subst, arith, eqb-true, ne_eqb, eq-eqb}
-use Rattle.std.specs.Prelude.{slice_get, slice_index}
+use Rattle.std.proofs.Common.{◌≡◌, ℕ, zero, suc, ◌+◌, ◌-◌, ◌<◌, ◌≤◌, ◌^◌, ◌==◌, Bool, true, false, List, [], ◌∷◌, length, map, drop, get_or, Some, None, refl, sym, ap, ◌∙◌, subst, arith, eqb-true, ne_eqb, eq-eqb}
+use Rattle.std.specs.Prelude.{slice_get}
 use Rattle.std.proofs.lemmas.Option.{slice_get_within, slice_get-get_or}
 use Rattle.fk_trace.specs.Text.{Range}
 use Rattle.fk_tree.specs.View.{tree_of, processors}
@@ -24,7 +24,7 @@ use Rattle.fk_replay_run.specs.Runs.{state_of}
 use Rattle.fk_replay_run.specs.Steady.{IsSteady}
 use Rattle.fk_replay.specs.Passed.{AreOnTime, TellsFirstLate, HasPassed, IsRefused, IsSteadyBehind}
 use Rattle.fk_replay_run.specs.Told.{KnowsAbout}
-use Rattle.fk_replay.specs.Followed.{HasDone, HasFollowed, HasStopped, IsUnlawful, AreSteady}
+use Rattle.fk_replay.specs.Followed.{HasDone, HasStopped, IsUnlawful, AreSteady}
 use Rattle.fk_replay.proofs.Following.{IsEmptyAt, empties_done, empties_late, steady_behind, round_done, round_stopped, round_refused}
 
 drop_next : (items : List Moment) (i : ℕ) (m : Moment) → slice_get items i ≡ Some m → drop i (map moment_of items) ≡ moment_of m ∷ drop (suc i) (map moment_of items)

@@ -59,8 +59,8 @@ module _ (core : List CoreOp) (round : Round) (number : ℕ) (is_last : Bool) (o
   HasTaken new None = IsDone core round old new
   HasTaken new (Some fault) = (is_last ≡ true) × IsStoppedBy core round old new fault
 
-  -- then those who were in it left. It is late for nobody, and unless it is the last one it was told
-  -- who could act after it
+  -- Then those who were in it left. It is late for nobody, and unless it is the last one it was
+  -- told who could act after it
   pub record HasPassed (new : Run) (fault : Option Fault) : Type 0 where
     pub mid : Run
     pub taken : HasTaken mid fault

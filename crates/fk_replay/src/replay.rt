@@ -1,7 +1,7 @@
 //! The run under the schedule of a trace.
 
-ghost use Rattle.std.specs.Prelude.{◌≡◌, ◌+◌, ◌^◌, ◌<◌, ◌≤◌, false, [], map, length, OnOk, IfOk, IfErr};
-ghost use Rattle.std.specs.Prelude.{None};
+ghost use Rattle.std.specs.Prelude.{◌≡◌, ◌+◌, ◌^◌, ◌<◌, ◌≤◌, false, [], map, length, None};
+ghost use Rattle.std.specs.Prelude.{OnOk, IfOk, IfErr};
 ghost use Rattle.fk_tree.specs.View.{tree_of, processors};
 ghost use Rattle.fk_meaning_state.specs.View.{setting_of};
 ghost use Rattle.fk_meaning.specs.Round.{Round};

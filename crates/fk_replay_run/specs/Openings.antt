@@ -1,5 +1,6 @@
 -- A run in memory before its first round.
-use Rattle.std.specs.Prelude.{◌≡◌, ℕ, ◌≤◌, List, [], None, Some, length, replicate, slice_get, slice_index}
+use Rattle.std.specs.Prelude.{◌≡◌, ℕ, ◌≤◌, List, [], None, Some, length, replicate}
+use Rattle.std.specs.Prelude.{slice_get, slice_index}
 use Rattle.fk_tree.specs.View.{tree_of, processors}
 use Rattle.fk_meaning_state.specs.View.{setting_of}
 use Rattle.fk_meaning.specs.Processor.{Setting}

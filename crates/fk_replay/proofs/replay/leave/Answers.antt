@@ -1,5 +1,5 @@
 -- One after the other leaves.
-use Rattle.std.proofs.Common.{◌≡◌, ℕ, ◌<◌, ◌≤◌, List, length, get_or, subst, sym, arith}
+use Rattle.std.proofs.Common.{◌≡◌, ℕ, ◌<◌, length, get_or, subst, arith}
 use Rattle.fk_replay_phases.proofs.Highest.{element}
 use Rattle.fk_replay_phases.specs.declared.acting.Acting.{Acting}
 use Rattle.fk_replay.proofs.Leaving.{LeavesAt, leaves_first, leaves_more, leaves_all}

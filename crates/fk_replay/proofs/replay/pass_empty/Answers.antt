@@ -1,5 +1,5 @@
 -- The rounds so far are late for nobody.
-use Rattle.std.proofs.Common.{◌+◌, ◌<◌, ◌≤◌, arith, rules}
+use Rattle.std.proofs.Common.{◌<◌, ◌≤◌, arith, rules}
 use Rattle.fk_replay.specs.Passed.{TellsFirstLate}
 use Rattle.fk_replay.proofs.Timely.{on_time_more, late_first}
 use Rattle.fk_replay.proofs.replay.pass_empty.Goals as goal

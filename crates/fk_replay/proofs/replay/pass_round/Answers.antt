@@ -1,5 +1,5 @@
 -- A round is done, its processors leave, and it is told who could act.
-use Rattle.std.proofs.Common.{◌≡◌, ℕ, suc, ◌+◌, map, false, true, true≢false, refl, sym, ◌∙◌, subst, arith}
+use Rattle.std.proofs.Common.{◌≡◌, ℕ, suc, ◌+◌, map, true≢false, refl, sym, ◌∙◌, subst, arith}
 use Rattle.fk_tree.specs.View.{processors}
 use Rattle.fk_replay_text.specs.View.{range_of}
 use Rattle.fk_replay_text.specs.Rounds.{round_of}

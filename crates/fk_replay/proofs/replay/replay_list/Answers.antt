@@ -1,10 +1,9 @@
 -- The run under the schedule of a trace.
-use Rattle.std.proofs.Common.{◌≡◌, ℕ, sym, ◌∙◌, subst, arith}
+use Rattle.std.proofs.Common.{sym, ◌∙◌, subst}
 use Rattle.fk_replay_schedules.specs.Moments.{Moments, AreMoments}
 use Rattle.fk_replay_schedules.proofs.Moments.{traces_have_moments}
 use Rattle.fk_replay.specs.Replay.{schedule_in}
-use Rattle.fk_replay.proofs.Passing.{passes_on}
-use Rattle.fk_replay.proofs.Replays.{opened_steady, begun_steady, has_done_none, answered, refused}
+use Rattle.fk_replay.proofs.Replays.{opened_steady, begun_steady, has_done_none, answered}
 use Rattle.fk_replay.proofs.replay.replay_list.Goals as goal
 
 pub begin-requires-clause-steady : goal.begin-requires-clause-steady
