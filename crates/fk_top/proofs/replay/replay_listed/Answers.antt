@@ -1,9 +1,7 @@
-use Rattle.std.proofs.Common.{◌≡◌, ℕ, List, Some, Ok, Err, inl, inr, length, refl, sym, ap, subst, ◌∙◌, ◌⊎◌, arith}
+use Rattle.std.proofs.Common.{◌≡◌, ℕ, Some, Ok, Err, inr, length, refl, sym, ap, subst, ◌∙◌, ◌⊎◌, arith}
 use Rattle.fk_syntax.specs.ProgramView.{program_of}
 use Rattle.fk_compile.specs.Faithful.{words_by}
-use Rattle.fk_replay.specs.declared.end.Replayed.{Replayed}
-use Rattle.fk_replay_text.specs.declared.fault.ReplayFault.{ReplayFault}
-use Rattle.fk_replay_source.specs.Answer.{IsAnswerFor, sites_by}
+use Rattle.fk_replay_source.specs.Answer.{sites_by}
 use Rattle.fk_top_input.specs.declared.fault.InputFault.TheVariants.{Memory}
 use Rattle.fk_top_input.specs.Input.{input_of}
 use Rattle.fk_top.specs.Ending.{outcome_of}
