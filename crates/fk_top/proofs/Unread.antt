@@ -1,5 +1,5 @@
 -- What a call comes to where the words, or something else, could not be read.
-use Rattle.std.proofs.Common.{◌≡◌, ℕ, List, [], Result, Ok, Err, IfOk, refl, subst, inl, inr}
+use Rattle.std.proofs.Common.{◌≡◌, ◌⊎◌, ℕ, List, [], Result, Ok, Err, IfOk, refl, subst, inl, inr}
 use Rattle.std.specs.Prelude.{IsErr, IsOkAnd}
 use Rattle.std.specs.declared.alloc.AllocError.{AllocError}
 use Rattle.fk_ports.specs.Known.{MovesFirst}
@@ -30,6 +30,13 @@ pub unread_ends : (r : Result Ending AllocError) (fault : StoreFault) (request :
 unread_ends (Ok e) Fault request unread is none = inr (inl (unread refl, is refl))
 unread_ends (Ok e) Memory request unread is none = absurd (let bad = none refl in cc)
 unread_ends (Err error) fault request unread is none = tt
+
+-- what could not be read is told, or nothing more is said of it
+pub unread_told : (X : Type 0) (r : Result Ending AllocError) (fault : StoreFault) → (fault ≡ Fault → IsOkAnd r (λ e. outcome_of e ≡ silent ReadFault (line_of reports.ReadFault))) → (fault ≡ Memory → IsErr r)
+    → IfOk r (λ e. (outcome_of e ≡ silent ReadFault (line_of reports.ReadFault)) ⊎ X)
+unread_told X (Ok e) Fault is none = inl (is refl)
+unread_told X (Ok e) Memory is none = absurd (let bad = none refl in cc)
+unread_told X (Err error) fault is none = tt
 
 -- what was read has its ending
 pub read_ends : (r : Result Ending AllocError) (request : Request) (command : Command) (bytes trace input text : List ℕ) → text ≡ input

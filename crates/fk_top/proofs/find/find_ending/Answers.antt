@@ -3,7 +3,7 @@ use Rattle.fk_top_words.specs.Command.{command_of}
 use Rattle.fk_top.specs.Call.{given_of, request_of}
 use Rattle.fk_top.specs.Words.{most_input}
 use Rattle.fk_top.proofs.Lost.{none_lost, no_more, moved, few_input, lost_or_not}
-use Rattle.fk_top.proofs.Unread.{no_command_ends, read_ends, unread_ends}
+use Rattle.fk_top.proofs.Unread.{no_command_ends, read_ends, unread_ends, unread_told}
 use Rattle.fk_top.proofs.find.find_ending.Goals as goal
 
 pub returns-in-Err-clause-ends : goal.returns-in-Err-clause-ends
@@ -61,6 +61,12 @@ returns-clause-left g c = λ not. c.take_input.ensures.left (λ takes. not (comm
 
 pub returns-clause-input_faults : goal.returns-clause-input_faults
 returns-clause-input_faults g c = λ not. c.take_input.ensures.input_faults (λ takes. not (command_of c.in-Ok.command, c.in-Ok.ensures.reads, takes))
+
+pub returns-in-Err-read_files-clause-steady : goal.returns-in-Err-read_files-clause-steady
+returns-in-Err-read_files-clause-steady g c = unread_told _ c.unread.result c.in-Err-read_files.fault c.unread.ensures.fault c.unread.ensures.memory
+
+pub returns-clause-steady : goal.returns-clause-steady
+returns-clause-steady g c = unread_told _ c.unread-in-Err-take_input.result c.in-Err-take_input.fault c.unread-in-Err-take_input.ensures.fault c.unread-in-Err-take_input.ensures.memory
 
 pub returns-in-Err-clause-lost : goal.returns-in-Err-clause-lost
 returns-in-Err-clause-lost g c = lost_or_not c.no_command.result 1048577 _ _ (none_lost 1048577 (g.S.Source.left c.args.input.now))

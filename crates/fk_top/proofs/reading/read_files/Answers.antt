@@ -1,7 +1,5 @@
-use Rattle.std.proofs.Common.{Err, refl, ap, subst, ◌∙◌, inl, inr}
-use Rattle.fk_ports.specs.declared.faults.StoreFault.TheVariants.{Fault, Memory}
-use Rattle.fk_top_words.specs.Command.{command_of}
-use Rattle.fk_top.specs.Words.{IsFile, trace_origin_of}
+use Rattle.std.proofs.Common.{Err, refl, ap, inl, inr}
+use Rattle.fk_ports.specs.declared.faults.StoreFault.TheVariants.{Fault}
 use Rattle.fk_top.proofs.Fetched.{faulted, passed, read_of}
 use Rattle.fk_top.proofs.reading.read_files.Goals as goal
 

@@ -1,10 +1,8 @@
-use Rattle.std.proofs.Common.{◌≡◌, ℕ, List, None, ap, ◌∙◌}
-use Rattle.fk_syntax.specs.ProgramView.{program_of}
-use Rattle.fk_replay_source.specs.Answer.{sites_by}
+use Rattle.std.proofs.Common.{None, ap, ◌∙◌}
 use Rattle.fk_top.specs.declared.report.Report.{Report}
 use Rattle.fk_top.specs.declared.status.Status.{Status}
 use Rattle.fk_top.specs.Report.{line_of}
-use Rattle.fk_top.specs.Outcome.{Outcome, replay_report, replay_status}
+use Rattle.fk_top.specs.Outcome.{Outcome, replay_status}
 use Rattle.fk_top.proofs.replay.accepted.Goals as goal
 
 pub returns : goal.returns

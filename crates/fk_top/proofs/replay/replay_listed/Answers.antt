@@ -1,13 +1,11 @@
-use Rattle.std.proofs.Common.{◌≡◌, ℕ, List, Some, Ok, Err, inl, inr, length, refl, sym, ap, subst, ◌∙◌, ◌⊎◌, arith}
+use Rattle.std.proofs.Common.{◌≡◌, ℕ, Some, Ok, Err, inr, length, refl, sym, ap, subst, ◌∙◌, ◌⊎◌, arith}
 use Rattle.fk_syntax.specs.ProgramView.{program_of}
 use Rattle.fk_compile.specs.Faithful.{words_by}
-use Rattle.fk_replay.specs.declared.end.Replayed.{Replayed}
-use Rattle.fk_replay_text.specs.declared.fault.ReplayFault.{ReplayFault}
-use Rattle.fk_replay_source.specs.Answer.{IsAnswerFor, sites_by}
+use Rattle.fk_replay_source.specs.Answer.{sites_by}
 use Rattle.fk_top_input.specs.declared.fault.InputFault.TheVariants.{Memory}
 use Rattle.fk_top_input.specs.Input.{input_of}
 use Rattle.fk_top.specs.Ending.{outcome_of}
-use Rattle.fk_top.specs.Outcome.{Outcome, most_numbers}
+use Rattle.fk_top.specs.Outcome.{EndsReplay, Outcome, most_numbers}
 use Rattle.fk_top.proofs.Inputs.{few_numbers}
 use Rattle.fk_top.proofs.Refusing.{refusing_input_beside}
 use Rattle.fk_top.proofs.Replaying.{answers, ends_trace, refusing_answer, refusing_trace}
@@ -51,15 +49,16 @@ returns-in-Ok-replay c =
     (inr (answers program facts c.args.bytes.now c.args.text.now trace c.in-Ok.ensures.trace c.in-Ok-read_input.numbers.items c.as_slice.result.now (Ok c.in-Ok-replay.replayed) (outcome_of c.accepted.result) numbers c.as_slice.ensures.value
     c.in-Ok-replay.ensures (ap (λ (o : Outcome). Some o) (sym c.accepted.ensures))))
 
-pub returns-in-Err-replay : goal.returns-in-Err-replay
-returns-in-Err-replay c =
+pub returns : goal.returns
+returns c =
     let listed = c.args.listed.now in
     let program = program_of listed.text.tree in
     let facts = listed.text.facts in
     let limit = c.most_numbers-limit.ensures ∙ ap most_numbers c.globals.ensures in
     let numbers = ap (λ (n : ℕ). input_of n c.args.text.now) (sym limit) ∙ c.in-Ok-read_input.ensures.numbers in
     let trace = c.in-Ok.trace in
-    refusing_answer (sites_by program facts) trace.cycles (Err c.in-Err-replay.fault) c.in-Err-replay.fault c.trace_report_of-in-Err-replay.result c.refused-in-Err-replay.result _ refl c.trace_report_of-in-Err-replay.ensures
+    refusing_answer (sites_by program facts) trace.cycles (Err c.in-Err-replay.fault) c.in-Err-replay.fault c.trace_report_of-in-Err-replay.result c.refused-in-Err-replay.result
+    (EndsReplay program facts c.args.bytes.now c.args.text.now) refl c.trace_report_of-in-Err-replay.ensures
     c.refused-in-Err-replay.ensures
     (λ outcome written. inr (record {
       harts = trace.harts;
