@@ -1,4 +1,4 @@
-use Rattle.std.proofs.Common.{◌≡◌, ℕ, ◌<◌, List, length, get_or, refl, ap, sym, ◌∙◌, arith, vec_len}
+use Rattle.std.proofs.Common.{◌≡◌, ℕ, ◌<◌, List, length, get_or, slice_get, refl, ap, sym, ◌∙◌, arith, vec_len}
 use Rattle.std.proofs.lemmas.List.{length-set}
 use Rattle.std.proofs.lemmas.Option.{slice_get_read}
 use Rattle.fk_tree.specs.Tree as t
@@ -12,21 +12,42 @@ use Rattle.fk_replay_trees.specs.Changes.{has_of}
 use Rattle.fk_replay_trees.proofs.Loop.{none_of}
 use Rattle.fk_replay_trees.proofs.Settling.{Given, next_there, comes_more, comes_idle, settles_more, settles_idle, settles_end}
 use Rattle.fk_replay_trees.proofs.settle.settle_all.Goals as goal
-use Rattle.fk_replay_trees.proofs.settle.settle_all.Goals.{in-Some+in_ok-settle, in_default}
+use Rattle.fk_replay_trees.proofs.settle.settle_all.Goals.{In-loop-member, in-Some+in_ok-settle, in_default}
 
 abbrev nobody : Acting
 nobody = record { number = 0; node = 0; lowest = 0; highest = 0 }
 
+-- the member of a turn
+abbrev member : In-loop-member → Acting
+member c = get_or c.args.acting.now c.loop-member.member-index nobody
+
+is_member : (c : In-loop-member) → member c ≡ get_or c.args.acting.now c.loop-member.member-index (member c)
+is_member c = element c.args.acting.now c.loop-member.member-index nobody c.loop-member-test.true
+
+-- it is a processor, and stands as it was given
+there : (c : In-loop-member) → ((member c).number < length c.args.actors.now.items)
+    × (slice_get c.loop-member.actors.items (member c).number ≡ slice_get c.args.actors.now.items (member c).number)
+there c =
+    next_there c.args.acting.now c.args.actors.now.items c.requires.in_round c.loop-member.member-index c.loop-member.actors.items (member c)
+    (c.loop-member.invariant.1 c.requires.in_round) c.loop-member-test.true (is_member c)
+
+-- the same, by the number of processors that are left
+low : (c : In-loop-member) → (member c).number < length c.loop-member.actors.items
+low c =
+    let bound = (there c).0 in
+    let many = (c.loop-member.invariant.1 c.requires.in_round).many in
+    omega (arith, bound, many)
+
+within : (c : In-loop-member) → (member c).number < vec_len c.loop-member.actors
+within c =
+    let bound = (there c).0 in
+    let held = c.args.actors.now.ok.0 in
+    let same = c.loop-member.invariant.0 in
+    omega (arith, bound, held, same)
+
 pub node_of-requires : goal.node_of-requires
 node_of-requires c =
-    let i = c.loop-member.member-index in
-    let now = c.loop-member.actors.items in
-    let x = get_or c.args.acting.now i nobody in
-    let at = c.loop-member.invariant.1 c.requires.in_round in
-    let lt : i < length c.args.acting.now = c.loop-member-test.true in
-    let is = element c.args.acting.now i nobody lt in
-    let there = next_there c.args.acting.now c.args.actors.now.items c.requires.in_round i now x at lt is in
-    let bound = there.0 in
+    let bound = (there (goal.at.node_of-requires c).In-loop-member).0 in
     let many = c.requires.many in
     omega (arith, bound, many)
 
@@ -40,32 +61,12 @@ overflow_cast-size c =
 
 pub settle-requires-clause-ready : goal.settle-requires-clause-ready
 settle-requires-clause-ready c =
-    let i = c.loop-member.member-index in
-    let now = c.loop-member.actors.items in
-    let x = get_or c.args.acting.now i nobody in
-    let at = c.loop-member.invariant.1 c.requires.in_round in
-    let lt : i < length c.args.acting.now = c.loop-member-test.true in
-    let is = element c.args.acting.now i nobody lt in
-    let there = next_there c.args.acting.now c.args.actors.now.items c.requires.in_round i now x at lt is in
-    let bound = there.0 in
-    let many = at.many in
-    let low : x.number < length now = omega (arith, bound, many) in
-    let here = slice_get_read now (length now) x.number c.index_mut.result.now refl low c.index_mut.ensures.value in
-    c.requires.ready.each x.number c.index_mut.result.now (sym there.1 ∙ here)
+    let inside = (goal.at.settle-requires-clause-ready c).In-loop-member in
+    let here = slice_get_read c.loop-member.actors.items (length c.loop-member.actors.items) (member inside).number c.index_mut.result.now refl (low inside) c.index_mut.ensures.value in
+    c.requires.ready.each (member inside).number c.index_mut.result.now (sym (there inside).1 ∙ here)
 
 pub index-requires : goal.index-requires
-index-requires c =
-    let i = c.loop-member.member-index in
-    let now = c.loop-member.actors.items in
-    let x = get_or c.args.acting.now i nobody in
-    let at = c.loop-member.invariant.1 c.requires.in_round in
-    let lt : i < length c.args.acting.now = c.loop-member-test.true in
-    let is = element c.args.acting.now i nobody lt in
-    let there = next_there c.args.acting.now c.args.actors.now.items c.requires.in_round i now x at lt is in
-    let bound = there.0 in
-    let held = c.args.actors.now.ok.0 in
-    let same = c.loop-member.invariant.0 in
-    omega (arith, bound, held, same)
+index-requires c = within (goal.at.index-requires c).In-loop-member
 
 pub last_of-highest-requires : goal.last_of-highest-requires
 last_of-highest-requires c =
@@ -82,18 +83,10 @@ last_of-highest-requires c =
 
 pub settle-requires-clause-taken : goal.settle-requires-clause-taken
 settle-requires-clause-taken c =
-    let i = c.loop-member.member-index in
+    let inside = (goal.at.settle-requires-clause-taken c).In-loop-member in
     let now = c.loop-member.actors.items in
-    let x = get_or c.args.acting.now i nobody in
-    let at = c.loop-member.invariant.1 c.requires.in_round in
-    let lt : i < length c.args.acting.now = c.loop-member-test.true in
-    let is = element c.args.acting.now i nobody lt in
-    let there = next_there c.args.acting.now c.args.actors.now.items c.requires.in_round i now x at lt is in
-    let bound = there.0 in
-    let many = at.many in
-    let low : x.number < length now = omega (arith, bound, many) in
-    let read = slice_get_read now (length now) x.number c.index.result.now refl low c.index.ensures in
-    let here = slice_get_read now (length now) x.number c.index_mut.result.now refl low c.index_mut.ensures.value in
+    let read = slice_get_read now (length now) (member inside).number c.index.result.now refl (low inside) c.index.ensures in
+    let here = slice_get_read now (length now) (member inside).number c.index_mut.result.now refl (low inside) c.index_mut.ensures.value in
     let same : c.index_mut.result.now ≡ c.index.result.now = cc in
     ap (λ (a : Actor). a.taken) same ∙ c.in-Some.is
 
@@ -105,14 +98,11 @@ loop-member-preserved c =
     let actors = c.args.actors.now.items in
     let tree = tree_of c.args.tree.now in
     let now = c.loop-member.actors.items in
-    let x = get_or acting i nobody in
+    let inside = (goal.at.loop-member-preserved c).In-loop-member in
+    let x = member inside in
     let lt : i < length acting = c.loop-member-test.true in
-    let is = element acting i nobody lt in
-    let at = c.loop-member.invariant.1 c.requires.in_round in
-    let there = next_there acting actors c.requires.in_round i now x at lt is in
-    let bound = there.0 in
-    let many = at.many in
-    let low : x.number < length now = omega (arith, bound, many) in
+    let is = is_member inside in
+    let low = low inside in
     let held = c.loop-member.actors.ok.0 in
     let same = c.loop-member.invariant.0 in
     elim c.match-index.branch [
@@ -140,18 +130,7 @@ loop-member-preserved c =
     ]
 
 pub index_mut-requires : goal.index_mut-requires
-index_mut-requires c =
-    let i = c.loop-member.member-index in
-    let now = c.loop-member.actors.items in
-    let x = get_or c.args.acting.now i nobody in
-    let at = c.loop-member.invariant.1 c.requires.in_round in
-    let lt : i < length c.args.acting.now = c.loop-member-test.true in
-    let is = element c.args.acting.now i nobody lt in
-    let there = next_there c.args.acting.now c.args.actors.now.items c.requires.in_round i now x at lt is in
-    let bound = there.0 in
-    let held = c.args.actors.now.ok.0 in
-    let same = c.loop-member.invariant.0 in
-    omega (arith, bound, held, same)
+index_mut-requires c = within (goal.at.index_mut-requires c).In-loop-member
 
 pub returns : goal.returns
 returns c = record {
