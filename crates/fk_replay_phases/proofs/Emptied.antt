@@ -6,12 +6,13 @@ use Rattle.fk_replay_phases.specs.Present.{AreNone, present, numbers_of}
 use Rattle.fk_replay_phases.specs.declared.acting.Acting.{Acting}
 use Rattle.fk_replay_phases.proofs.Present.{next_acting, none_acting}
 
-index_set : (xs : List ℕ) (i c : ℕ) → i < length xs → slice_index (set xs i c) i ≡ c
+-- a number in a list that is set, and the others
+pub index_set : (xs : List ℕ) (i c : ℕ) → i < length xs → slice_index (set xs i c) i ≡ c
 index_set [] i c lt = absurd (let z : ⊥ = omega arith in z)
 index_set (x ∷ xs) zero c lt = refl
 index_set (x ∷ xs) (suc i) c lt = index_set xs i c (omega arith)
 
-index_set_other : (xs : List ℕ) (i j c : ℕ) → i ≢ j → slice_index (set xs i c) j ≡ slice_index xs j
+pub index_set_other : (xs : List ℕ) (i j c : ℕ) → i ≢ j → slice_index (set xs i c) j ≡ slice_index xs j
 index_set_other [] i j c ne = refl
 index_set_other (x ∷ xs) zero zero c ne = absurd (ne refl)
 index_set_other (x ∷ xs) zero (suc j) c ne = refl

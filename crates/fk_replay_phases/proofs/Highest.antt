@@ -25,15 +25,21 @@ element [] i d lt = absurd (let z : ⊥ = omega arith in z)
 element (x ∷ xs) zero d lt = refl
 element (x ∷ xs) (suc i) d lt = element xs i d (omega arith)
 
-self_in : (x : ℕ) (xs : List ℕ) → is_member x (x ∷ xs) ≡ true
+pub self_in : (x : ℕ) (xs : List ℕ) → is_member x (x ∷ xs) ≡ true
 self_in x xs = grind arith
 
-later_in : (x y : ℕ) (xs : List ℕ) → is_member x xs ≡ true → is_member x (y ∷ xs) ≡ true
+pub later_in : (x y : ℕ) (xs : List ℕ) → is_member x xs ≡ true → is_member x (y ∷ xs) ≡ true
 later_in x y xs is = by (x == y)
   where
     by : (b : Bool) → b || is_member x xs ≡ true
     by true = refl
     by false = is
+
+-- the highest of some numbers is one of them
+pub highest_has : (ms : List ℕ) (h : ℕ) → is_member h ms ≡ true → is_member (highest ms) ms ≡ true
+highest_has [] h e = absurd (let bad : false ≡ true = e in cc)
+highest_has (m ∷ []) h e = self_in m []
+highest_has (m ∷ k ∷ ms) h e = later_in (highest (k ∷ ms)) m (k ∷ ms) (highest_has (k ∷ ms) k (self_in k ms))
 
 index_in : (xs : List ℕ) (i : ℕ) → i < length xs → is_member (slice_index xs i) xs ≡ true
 index_in [] i lt = absurd (let z : ⊥ = omega arith in z)

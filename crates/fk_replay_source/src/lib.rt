@@ -7,8 +7,6 @@
 pub mod laws;
 mod listed;
 mod program;
-#[cfg(test)]
-mod tests;
 
 pub use fk_compile::List;
 pub use fk_compile_text::Built;

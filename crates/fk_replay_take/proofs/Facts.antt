@@ -27,6 +27,7 @@ use Rattle.fk_replay_phases.specs.declared.actor.Actor.{Actor}
 use Rattle.fk_replay_phases.specs.Present.{present, numbers_of, acting_at, all_acting, AreHighBelow}
 use Rattle.fk_replay_phases.specs.Actors.{acting_of, actings_of, runners_of, due_of, AreInRound}
 use Rattle.fk_replay_phases.specs.Joints.{joint_at}
+use Rattle.fk_replay_phases.proofs.Highest.{highest_has}
 use Rattle.fk_replay_take.specs.Ranges.{AreRanges}
 use Rattle.fk_replay_run.specs.Steady.{IsSteady}
 use Rattle.fk_replay_take.specs.Asked.{AreServed}
@@ -168,24 +169,6 @@ module _ (core : List CoreOp) (setting : Setting) (round : Round) (s : State Pos
       within_round xs h le some = let w = within_list xs h some in omega arith
 
 -- ---- highest members
-
-highest_has : (ms : List ℕ) (h : ℕ) → is_member h ms ≡ true → is_member (highest ms) ms ≡ true
-highest_has [] h e = absurd (let bad : false ≡ true = e in cc)
-highest_has (m ∷ []) h e = self m []
-  where
-    self : (k : ℕ) (ms : List ℕ) → is_member k (k ∷ ms) ≡ true
-    self k ms = grind arith
-highest_has (m ∷ k ∷ ms) h e = later m (highest (k ∷ ms)) (k ∷ ms) (highest_has (k ∷ ms) k (self k ms))
-  where
-    self : (k : ℕ) (ms : List ℕ) → is_member k (k ∷ ms) ≡ true
-    self k ms = grind arith
-
-    later : (m h : ℕ) (ks : List ℕ) → is_member h ks ≡ true → is_member h (m ∷ ks) ≡ true
-    later m h ks is = by (h == m)
-      where
-        by : (b : Bool) → b || is_member h ks ≡ true
-        by true = refl
-        by false = is
 
 pub high_below : (p : ℕ) (tree : Tree) → IsSound p tree → (ns : List ℕ) → ((i n : ℕ) → slice_get ns i ≡ Some n → n < p) → AreHighBelow p (all_acting tree ns)
 high_below p tree sound ns below = record { each = λ i x is. at ns below i x is }

@@ -12,6 +12,7 @@ use Rattle.fk_replay_text.specs.Rounds.{count_in, counts_from}
 use Rattle.fk_tree.specs.Tree.{Tree}
 use Rattle.fk_replay_phases.specs.Present.{AreNone, present, all_acting, acting_at}
 use Rattle.fk_replay_phases.specs.declared.acting.Acting.{Acting}
+use Rattle.fk_replay_phases.proofs.Emptied.{index_set, index_set_other}
 use Rattle.fk_replay_take.specs.Ranges.{AreRanges, with_range}
 
 none_present : (n : ℕ) (round : Round) → ((g : ℕ) → slice_index round g ≡ 0) → present n round ≡ []
@@ -119,18 +120,6 @@ range_first r old none = record {
   before = λ h lt. sym (ap (λ (b : Bool). if b then r.number else slice_index old h) (not_yet r h lt));
   behind = none;
 }
-
-index_set : (xs : List ℕ) (i c : ℕ) → i < length xs → slice_index (set xs i c) i ≡ c
-index_set [] i c lt = absurd (let z : ⊥ = omega arith in z)
-index_set (x ∷ xs) zero c lt = refl
-index_set (x ∷ xs) (suc i) c lt = index_set xs i c (omega arith)
-
-index_set_other : (xs : List ℕ) (i j c : ℕ) → i ≢ j → slice_index (set xs i c) j ≡ slice_index xs j
-index_set_other [] i j c ne = refl
-index_set_other (x ∷ xs) zero zero c ne = absurd (ne refl)
-index_set_other (x ∷ xs) zero (suc j) c ne = refl
-index_set_other (x ∷ xs) (suc i) zero c ne = refl
-index_set_other (x ∷ xs) (suc i) (suc j) c ne = index_set_other xs i j c (λ e. ne (ap suc e))
 
 pub range_more : (r : Range) (old : List ℕ) (number : ℕ) (counts : List ℕ) → RangeAt r old number counts → r.first ≤ number → number ≤ r.last → number < length old
     → RangeAt r old (number + 1) (set counts number r.number)

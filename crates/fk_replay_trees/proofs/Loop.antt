@@ -21,6 +21,7 @@ use Rattle.fk_replay_phases.specs.declared.acting.Acting as acts
 use Rattle.fk_replay_phases.specs.declared.actor.Actor.{Actor}
 use Rattle.fk_replay_phases.specs.Present.{present, numbers_of, acting_at}
 use Rattle.fk_replay_phases.specs.Actors.{acting_of, actings_of, due_of, runners_of, AreInRound}
+use Rattle.fk_replay_phases.proofs.Highest.{highest_has}
 use Rattle.fk_replay_phases.proofs.Present.{next_acting, none_acting}
 use Rattle.fk_replay_trees.specs.Changes.{has_of, Needs, CanStep, CanChange}
 use Rattle.fk_replay_trees.proofs.Changing.{eq_false, beside, stays_ended, gives_few, needs_still, IsAsBefore}
@@ -211,24 +212,6 @@ module _ (p : ℕ) (old : Tree) (acting : List acts.Acting) (actors : List Actor
       pub lowest_is : x.lowest ≡ lowest (t.members now x.node)
       pub low : x.lowest < length actors
       pub high : x.highest < length actors
-
-    highest_has : (ms : List ℕ) (h : ℕ) → is_member h ms ≡ true → is_member (highest ms) ms ≡ true
-    highest_has [] h e = absurd (let bad : false ≡ true = e in cc)
-    highest_has (m ∷ []) h e = self m
-      where
-        self : (m : ℕ) → is_member m (m ∷ []) ≡ true
-        self m = grind arith
-    highest_has (m ∷ k ∷ ms) h e = later m (highest (k ∷ ms)) (k ∷ ms) (highest_has (k ∷ ms) k (self k ms))
-      where
-        self : (k : ℕ) (ms : List ℕ) → is_member k (k ∷ ms) ≡ true
-        self k ms = grind arith
-
-        later : (m h : ℕ) (ks : List ℕ) → is_member h ks ≡ true → is_member h (m ∷ ks) ≡ true
-        later m h ks is = by (h == m)
-          where
-            by : (b : Bool) → b || is_member h ks ≡ true
-            by true = refl
-            by false = is
 
     pub can_change : (i : ℕ) (now : Tree) (x : acts.Acting) (a : Actor) (due : Due) → ChangesAt i now → i < length acting → x ≡ get_or acting i x → slice_get actors x.number ≡ Some a → a.taken ≡ Some due
         → x.number ≡ x.lowest → Can now x due.operation

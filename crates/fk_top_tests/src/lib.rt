@@ -1,5 +1,7 @@
-//! A test of a whole call over a store, a source and sinks that never fail.
+//! Tests of a whole call over a store, a source and sinks that never fail, and of replays.
 #![tactic(auto)]
 
+#[cfg(test)]
+mod replays;
 #[cfg(test)]
 mod tests;

@@ -1,5 +1,5 @@
 use Rattle.std.proofs.Common.{arith}
-use Rattle.fk_replay_source.proofs.tests.replayed.Goals as goal
+use Rattle.fk_top_tests.proofs.replays.replayed.Goals as goal
 
 pub replay-requires-clause-room : goal.replay-requires-clause-room
 replay-requires-clause-room c = let few = c.in_ok-listed.ensures.few in omega (arith, few)

@@ -1,6 +1,6 @@
 //! Replays of a short text, under schedules that are made by hand.
 
-use crate::{End, ReplayFault, Replayed, listed_text, read_trace, replay};
+use fk_replay_source::{End, ReplayFault, Replayed, listed_text, read_trace, replay};
 use std::alloc::Global;
 use std::test::Fail;
 
