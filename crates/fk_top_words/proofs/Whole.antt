@@ -439,11 +439,11 @@ asks_run us f h c s i end harts cycles each e hs cs some few_enough = record {
 }
 
 -- the words of a command that runs a file, without a variable to show
-asked_exec : (name : Text) (words : List Text) (command : Command) (file : Text) (harts cycles : ℕ) → Behind name exec_parts words
+runs_asked : (name : Text) (words : List Text) (command : Command) (file : Text) (harts cycles : ℕ) → Behind name exec_parts words
     → ReadsRun words file harts cycles None
     → ((end : List Row) → first_of (codes "file") end ≡ Some file → RunsBy end harts cycles → AsksFor name end command)
     → IsAsked (name ∷ words) command
-asked_exec name words command file harts cycles behind r asks =
+runs_asked name words command file harts cycles behind r asks =
     let us = r.given.arguments in
     let each = each_of us _ (Some file) (Some r.harts_text) (Some r.cycles_text) None None r.given.values_are refl refl refl refl refl in
     let gf = given_by File us file [] each.file in
@@ -455,11 +455,11 @@ asked_exec name words command file harts cycles behind r asks =
         (asks_run us file r.harts_text r.cycles_text None None end harts cycles each e r.harts_are r.cycles_are r.some_harts r.few_harts))
 
 -- the words of a command that reads a file and puts another
-asked_put : (name : Text) (words : List Text) (command : Command) (file image : Text) → Behind name put_parts words
+puts_asked : (name : Text) (words : List Text) (command : Command) (file image : Text) → Behind name put_parts words
     → Gives words (two_files file image)
     → ((end : List Row) → first_of (codes "file") end ≡ Some file → first_of (codes "image") end ≡ Some image → AsksFor name end command)
     → IsAsked (name ∷ words) command
-asked_put name words command file image behind r asks =
+puts_asked name words command file image behind r asks =
     let us = r.arguments in
     let each = each_of us _ (Some file) None None None (Some image) r.values_are refl refl refl refl refl in
     let gf = given_by File us file [] each.file in
@@ -482,22 +482,22 @@ asked_as word words (Run file harts cycles show) reads =
     (λ end e. (refl, first-is File us (Some file) end e each.file, asks_run us file r.harts_text r.cycles_text show None end harts cycles each e r.harts_are r.cycles_are r.some_harts r.few_harts, first-is Show us show end e each.show)))
 asked_as word words (Exec file harts cycles) reads =
     subst (λ w. IsAsked (w ∷ words) (Exec file harts cycles)) (sym reads.0)
-    (asked_exec (codes "exec") words (Exec file harts cycles) file harts cycles (behind_exec words) reads.1 (λ end first runs. (refl, first, runs)))
+    (runs_asked (codes "exec") words (Exec file harts cycles) file harts cycles (behind_exec words) reads.1 (λ end first runs. (refl, first, runs)))
 asked_as word words (Audit file harts cycles) reads =
     subst (λ w. IsAsked (w ∷ words) (Audit file harts cycles)) (sym reads.0)
-    (asked_exec (codes "audit") words (Audit file harts cycles) file harts cycles (behind_audit words) reads.1 (λ end first runs. (refl, first, runs)))
+    (runs_asked (codes "audit") words (Audit file harts cycles) file harts cycles (behind_audit words) reads.1 (λ end first runs. (refl, first, runs)))
 asked_as word words (Trace file harts cycles) reads =
     subst (λ w. IsAsked (w ∷ words) (Trace file harts cycles)) (sym reads.0)
-    (asked_exec (codes "trace") words (Trace file harts cycles) file harts cycles (behind_trace words) reads.1 (λ end first runs. (refl, first, runs)))
+    (runs_asked (codes "trace") words (Trace file harts cycles) file harts cycles (behind_trace words) reads.1 (λ end first runs. (refl, first, runs)))
 asked_as word words (Build file image) reads =
     subst (λ w. IsAsked (w ∷ words) (Build file image)) (sym reads.0)
-    (asked_put (codes "build") words (Build file image) file image (behind_build words) reads.1 (λ end first second. (refl, first, second)))
+    (puts_asked (codes "build") words (Build file image) file image (behind_build words) reads.1 (λ end first second. (refl, first, second)))
 asked_as word words (Elf image file) reads =
     subst (λ w. IsAsked (w ∷ words) (Elf image file)) (sym reads.0)
-    (asked_put (codes "elf") words (Elf image file) image file (behind_elf words) reads.1 (λ end first second. (refl, first, second)))
+    (puts_asked (codes "elf") words (Elf image file) image file (behind_elf words) reads.1 (λ end first second. (refl, first, second)))
 asked_as word words (Unelf file image) reads =
     subst (λ w. IsAsked (w ∷ words) (Unelf file image)) (sym reads.0)
-    (asked_put (codes "unelf") words (Unelf file image) file image (behind_unelf words) reads.1 (λ end first second. (refl, first, second)))
+    (puts_asked (codes "unelf") words (Unelf file image) file image (behind_unelf words) reads.1 (λ end first second. (refl, first, second)))
 asked_as word words (ListCode image) reads =
     let r = reads.1 in
     let us = r.arguments in
