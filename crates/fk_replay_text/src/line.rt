@@ -13,6 +13,7 @@ use crate::column::{Column, event_of};
 use crate::range::read_ranges;
 use crate::trace::Acts;
 use crate::words::{after, first_word, read_number};
+use smallvec::SmallVec;
 use std::alloc::{AllocError, Global};
 
 /// The most harts of a trace.
@@ -23,7 +24,7 @@ const MOST_HARTS: u32 = 1024;
 pub(crate) struct Told {
     pub(crate) column: Column,
     pub(crate) cycle: u32,
-    pub(crate) ranges: Vec<Acts>,
+    pub(crate) ranges: SmallVec<Acts, 1>,
 }
 
 /// The beginning of the line of a cycle, and the text of its ranges.
@@ -54,6 +55,9 @@ pub(crate) fn read_end(line: &[u8]) -> Option<u32>
         (λ cycles. line.now ++ 10 ∷ [] ≡ last_line cycles) }
     ensures word { IfSome result (λ cycles. cycles < 2 ^ 32) }
 {
+    if line.first() != Some(&b'e') {
+        return None;
+    }
     read_number(after(line, b"end ")?)
 }
 

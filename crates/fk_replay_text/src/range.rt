@@ -12,6 +12,7 @@ ghost use Rattle.fk_replay_text.specs.View.{range_of};
 use crate::column::Column;
 use crate::trace::Acts;
 use crate::words::{after, cut, first_word, read_number};
+use smallvec::SmallVec;
 use std::alloc::{AllocError, Global};
 
 /// The range that a field of a line spells.
@@ -84,7 +85,7 @@ pub(crate) fn read_ranges(
     column: Column,
     harts: u32,
     text: &[u8],
-) -> Result<Option<Vec<Acts>>, AllocError>
+) -> Result<Option<SmallVec<Acts, 1>>, AllocError>
     requires { Stops 32 text.now }
     ensures { IfOk result (λ ranges. MatchOption ranges
         ((rs : List Range) → AreRanges (column_of column) harts rs
@@ -92,7 +93,7 @@ pub(crate) fn read_ranges(
         (λ acts. AreRanges (column_of column) harts (map range_of acts.items)
         × (text.now ≡ flat_map (range_text (column_of column)) (map range_of acts.items)))) }
 {
-    let mut ranges = Vec::new(alloc);
+    let mut ranges = SmallVec::new(alloc);
     let mut last = None;
     let mut rest = text;
     while let Some(behind) = after(rest, b" ") {

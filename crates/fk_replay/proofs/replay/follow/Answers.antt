@@ -36,7 +36,7 @@ pub pass_round-requires-clause-ranges : goal.pass_round-requires-clause-ranges
 pass_round-requires-clause-ranges c =
     let low : c.loop-moment.moment-index < length c.args.trace.now.moments.items = rw c.deref-moment-items.ensures.value at c.loop-moment-test.true in
     let is : c.moment-item.result ≡ get_or c.args.trace.now.moments.items c.loop-moment.moment-index c.moment-item.result = rw c.deref-moment-items.ensures.value at c.moment-item.is in
-    subst (λ (acts : List Acts). AreRanges (processors c.loop-moment.run.tree) (map range_of acts)) (sym c.deref.ensures.value)
+    subst (λ (acts : List Acts). AreRanges (processors c.loop-moment.run.tree) (map range_of acts)) (sym c.deref.ensures)
     (are_ranges c.args.ops.now (setting_of c.args.run.now.setting) (state_of c.args.run.now) c.args.trace.now.harts c.args.trace.now.cycles c.args.trace.now.moments.items (c.requires.first.run.setting ∙ c.requires.harts) c.requires.steady c.loop-moment.moment-index c.loop-moment.behind c.loop-moment.run c.moment-item.result low is c.loop-moment.invariant)
 
 pub pass_round-requires-clause-behind : goal.pass_round-requires-clause-behind
@@ -45,7 +45,7 @@ pass_round-requires-clause-behind c =
     let is : c.moment-item.result ≡ get_or c.args.trace.now.moments.items c.loop-moment.moment-index c.moment-item.result = rw c.deref-moment-items.ensures.value at c.moment-item.is in
     let before : HasDone c.args.ops.now (setting_of c.args.run.now.setting) (schedule_in c.args.trace.now) (state_of c.args.run.now) (c.moment-item.result.cycle - 1) c.loop-moment.run =
     before_done c.args.ops.now (setting_of c.args.run.now.setting) (state_of c.args.run.now) c.args.trace.now.harts c.args.trace.now.cycles c.args.trace.now.moments.items (c.requires.first.run.setting ∙ c.requires.harts) c.requires.steady c.loop-moment.moment-index c.loop-moment.behind c.loop-moment.run c.moment-item.result low is c.loop-moment.invariant c.in_ok-pass_empty.ensures.on_time in
-    subst (λ (acts : List Acts). IsSteadyBehind c.args.ops.now (round_of (processors c.loop-moment.run.tree) (map range_of acts)) c.loop-moment.run) (sym c.deref.ensures.value)
+    subst (λ (acts : List Acts). IsSteadyBehind c.args.ops.now (round_of (processors c.loop-moment.run.tree) (map range_of acts)) c.loop-moment.run) (sym c.deref.ensures)
     (is_steady_behind c.args.ops.now (setting_of c.args.run.now.setting) (state_of c.args.run.now) c.args.trace.now.harts c.args.trace.now.cycles c.args.trace.now.moments.items (c.requires.first.run.setting ∙ c.requires.harts) c.requires.steady c.loop-moment.moment-index c.loop-moment.behind c.loop-moment.run c.moment-item.result low is c.loop-moment.invariant before)
 
 pub pass_round-requires-clause-given : goal.pass_round-requires-clause-given
@@ -79,7 +79,7 @@ returns-in_err-fault-clause-unlawful c =
     before_done c.args.ops.now (setting_of c.args.run.now.setting) (state_of c.args.run.now) c.args.trace.now.harts c.args.trace.now.cycles c.args.trace.now.moments.items (c.requires.first.run.setting ∙ c.requires.harts) c.requires.steady c.loop-moment.moment-index c.loop-moment.behind c.loop-moment.run c.moment-item.result low is c.loop-moment.invariant c.in_ok-pass_empty.ensures.on_time in
     passes_on (IsUnlawful c.args.ops.now (setting_of c.args.run.now.setting) (schedule_in c.args.trace.now) (state_of c.args.run.now)) c.from_residual-in_err-fault.result c.in_err-fault.field-0.0 c.from_residual-in_err-fault.ensures.1
     (round_fails c.args.ops.now (setting_of c.args.run.now.setting) (state_of c.args.run.now) c.args.trace.now.harts c.args.trace.now.cycles c.args.trace.now.moments.items (c.requires.first.run.setting ∙ c.requires.harts) c.requires.steady c.loop-moment.moment-index c.loop-moment.behind c.loop-moment.run c.moment-item.result low is c.loop-moment.invariant before (c.moment-item.result.cycle == c.args.trace.now.cycles) c.in_err-fault.field-0.0 refl
-    (subst (λ (acts : List Acts). IsRefused c.args.ops.now (round_of (processors c.loop-moment.run.tree) (map range_of acts)) c.moment-item.result.cycle (c.moment-item.result.cycle == c.args.trace.now.cycles) c.loop-moment.run c.in_err-fault.field-0.0) c.deref.ensures.value c.in_err-fault.ensures.refused))
+    (subst (λ (acts : List Acts). IsRefused c.args.ops.now (round_of (processors c.loop-moment.run.tree) (map range_of acts)) c.moment-item.result.cycle (c.moment-item.result.cycle == c.args.trace.now.cycles) c.loop-moment.run c.in_err-fault.field-0.0) c.deref.ensures c.in_err-fault.ensures.refused))
 
 pub returns-in-Some-clause-followed : goal.returns-in-Some-clause-followed
 returns-in-Some-clause-followed c =
@@ -88,7 +88,7 @@ returns-in-Some-clause-followed c =
     let before : HasDone c.args.ops.now (setting_of c.args.run.now.setting) (schedule_in c.args.trace.now) (state_of c.args.run.now) (c.moment-item.result.cycle - 1) c.loop-moment.run =
     before_done c.args.ops.now (setting_of c.args.run.now.setting) (state_of c.args.run.now) c.args.trace.now.harts c.args.trace.now.cycles c.args.trace.now.moments.items (c.requires.first.run.setting ∙ c.requires.harts) c.requires.steady c.loop-moment.moment-index c.loop-moment.behind c.loop-moment.run c.moment-item.result low is c.loop-moment.invariant c.in_ok-pass_empty.ensures.on_time in
     round_ends c.args.ops.now (setting_of c.args.run.now.setting) (state_of c.args.run.now) c.args.trace.now.harts c.args.trace.now.cycles c.args.trace.now.moments.items (c.requires.first.run.setting ∙ c.requires.harts) c.requires.steady c.loop-moment.moment-index c.loop-moment.behind c.loop-moment.run c.moment-item.result low is c.loop-moment.invariant before (c.moment-item.result.cycle == c.args.trace.now.cycles) c.pass_round.new.run c.in-Some.fault refl
-    (subst (λ (acts : List Acts). HasPassed c.args.ops.now (round_of (processors c.loop-moment.run.tree) (map range_of acts)) c.moment-item.result.cycle (c.moment-item.result.cycle == c.args.trace.now.cycles) c.loop-moment.run c.pass_round.new.run (Some c.in-Some.fault)) c.deref.ensures.value
+    (subst (λ (acts : List Acts). HasPassed c.args.ops.now (round_of (processors c.loop-moment.run.tree) (map range_of acts)) c.moment-item.result.cycle (c.moment-item.result.cycle == c.args.trace.now.cycles) c.loop-moment.run c.pass_round.new.run (Some c.in-Some.fault)) c.deref.ensures
     (rw c.in-Some.is at c.in_ok-fault.ensures.passed))
 
 pub loop-moment-preserved : goal.loop-moment-preserved
@@ -98,7 +98,7 @@ loop-moment-preserved c =
     let before : HasDone c.args.ops.now (setting_of c.args.run.now.setting) (schedule_in c.args.trace.now) (state_of c.args.run.now) (c.moment-item.result.cycle - 1) c.loop-moment.run =
     before_done c.args.ops.now (setting_of c.args.run.now.setting) (state_of c.args.run.now) c.args.trace.now.harts c.args.trace.now.cycles c.args.trace.now.moments.items (c.requires.first.run.setting ∙ c.requires.harts) c.requires.steady c.loop-moment.moment-index c.loop-moment.behind c.loop-moment.run c.moment-item.result low is c.loop-moment.invariant c.in_ok-pass_empty.ensures.on_time in
     round_after c.args.ops.now (setting_of c.args.run.now.setting) (state_of c.args.run.now) c.args.trace.now.harts c.args.trace.now.cycles c.args.trace.now.moments.items (c.requires.first.run.setting ∙ c.requires.harts) c.requires.steady c.loop-moment.moment-index c.loop-moment.behind c.loop-moment.run c.moment-item.result low is c.loop-moment.invariant before (c.moment-item.result.cycle == c.args.trace.now.cycles) c.pass_round.new.run refl
-    (subst (λ (acts : List Acts). HasPassed c.args.ops.now (round_of (processors c.loop-moment.run.tree) (map range_of acts)) c.moment-item.result.cycle (c.moment-item.result.cycle == c.args.trace.now.cycles) c.loop-moment.run c.pass_round.new.run None) c.deref.ensures.value
+    (subst (λ (acts : List Acts). HasPassed c.args.ops.now (round_of (processors c.loop-moment.run.tree) (map range_of acts)) c.moment-item.result.cycle (c.moment-item.result.cycle == c.args.trace.now.cycles) c.loop-moment.run c.pass_round.new.run None) c.deref.ensures
     (rw c.in_default.is at c.in_ok-fault.ensures.passed))
 
 pub returns-in_err-pass_empty-2-clause-unlawful : goal.returns-in_err-pass_empty-2-clause-unlawful

@@ -26,7 +26,7 @@ loop-behind-preserved c =
     let yes : IsTrue c.comes_next.result = first_of (search (rules, c.if-not-comes_next.false), grind (arith, c.if-not-comes_next.false), search rules) in
     let both = c.comes_next.ensures.0 yes in
     let items : map range_of c.push.new.self.items ≡ map range_of l.ranges.items ++ (range_of c.in-Some-read_range.acts ∷ []) =
-    ap (map range_of) c.in_ok-push.ensures.items ∙ map-append range_of l.ranges.items (c.in-Some-read_range.acts ∷ []) in
+    ap (map range_of) c.in_ok-push.ensures.ok ∙ map-append range_of l.ranges.items (c.in-Some-read_range.acts ∷ []) in
     rw items (reads_on (column_of c.args.column) c.args.harts c.args.text.now l.rest.now c.in-Some.behind.now c.first_word.result.0.now c.first_word.result.1.now (map range_of l.ranges.items)
     (option_map range_of l.last) (range_of c.in-Some-read_range.acts) c.ranges.harts.fits l.invariant c.in-Some.ensures c.first_word.ensures c.in-Some-read_range.ensures both.0 both.1)
 
