@@ -452,7 +452,7 @@ runs_asked name words command file harts cycles behind r asks =
     asked_named name exec_parts exec_command words command us (Some file) (Some r.harts_text) (Some r.cycles_text) None None behind r.given.spelled each
     (exec_in us each.show each.image) (rw (gf, gh, gc) refl)
     (λ end e. asks end (first-is File us (Some file) end e each.file)
-        (asks_run us file r.harts_text r.cycles_text None None end harts cycles each e r.harts_are r.cycles_are r.some_harts r.few_harts))
+    (asks_run us file r.harts_text r.cycles_text None None end harts cycles each e r.harts_are r.cycles_are r.some_harts r.few_harts))
 
 -- the words of a command that reads a file and puts another
 puts_asked : (name : Text) (words : List Text) (command : Command) (file image : Text) → Behind name put_parts words
